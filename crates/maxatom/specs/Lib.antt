@@ -1,0 +1,4 @@
+pub mod Rule
+pub mod Class
+pub mod ClassNumber
+pub mod Book
