@@ -128,6 +128,10 @@ pub by-test : (t : Bool) → (t ≡ true → ⊥) → t ≡ false
 by-test true h = absurd (h refl)
 by-test false h = refl
 
+pub by-test-not : (t : Bool) → (t ≡ false → ⊥) → t ≡ true
+by-test-not true h = refl
+by-test-not false h = absurd (h refl)
+
 pub false-le : {a b : ℤ} → b <ℤ a → leZ a b ≡ false
 false-le {a = a} {b = b} h = by-test (leZ a b) (λ e. omega (arith, lt-read h, le-read (le-true {a = a} {b = b} e)))
 

@@ -20,6 +20,10 @@ pub in-each : {A : Type 0} (P : A → Type 0) (l : List A) → ((a : A) → In a
 in-each P [] f = tt
 in-each P (a ∷ l) f = (f a here, in-each P l (λ b i. f b (there i)))
 
+pub each-map : {A : Type 0} (P Q : A → Type 0) (l : List A) → ((a : A) → P a → Q a) → Each P l → Each Q l
+each-map P Q [] f e = tt
+each-map P Q (a ∷ l) f e = (f a (e .0), each-map P Q l f (e .1))
+
 -- what holds of each time holds at each job, and back
 pub each-time : (P : ℤ → Type 0) (b : List ℤ) → P (timeAt [] 0) → Each P b → (job : ℕ) → P (timeAt b job)
 each-time P [] d e job = d

@@ -70,7 +70,7 @@ in-clauses [] i d h = absurd (omega arith)
 in-clauses (r ∷ rules) zero d h = here
 in-clauses (r ∷ rules) (suc i) d h = there (in-clauses rules i d (omega arith))
 
-zero-time : (n job : ℕ) → timeAt (replicate n (pos 0)) job ≡ pos 0
+pub zero-time : (n job : ℕ) → timeAt (replicate n (pos 0)) job ≡ pos 0
 zero-time zero job = refl
 zero-time (suc n) zero = refl
 zero-time (suc n) (suc job) = zero-time n job

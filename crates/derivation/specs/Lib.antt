@@ -1,0 +1,7 @@
+pub mod Refusals
+pub mod Step
+pub mod Play
+pub mod Run
+pub mod Calls
+pub mod Demands
+pub mod Examples
