@@ -173,7 +173,7 @@ module _ {jobs : ℕ} {rules : List Rule} (a : Accepted jobs rules) {state : Sta
         broken = ⊎-elim (λ w. w) (λ sat. absurd (none (state .times, is-plan sat))) (search-violated rules (state .times));
         bound = omega (arith, longest (set-of a) d, room-zero jobs rules);
         at-bound = λ e. by-test-not _ (λ above.
-          omega (arith, longest-high (set-of a) d (test-high (floor rules) (state .times) (floor-low a) above), room-zero jobs rules));
+            omega (arith, longest-high (set-of a) d (test-high (floor rules) (state .times) (floor-low a) above), room-zero jobs rules));
       }
 
 pub demand-3 : Demand3

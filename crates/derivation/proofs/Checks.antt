@@ -38,10 +38,13 @@ neither false q e = (refl, e)
 -- a rule's two checks pass exactly for a rule of the book
 rule-passes : (jobs : ℕ) (r : Rule) → InBook jobs r → (jobOutside jobs r ≡ false) × (offsetOutside r ≡ false)
 unfolding jobOutside offsetOutside
-rule-passes jobs r b =
-    (rw (lt-leb jobs (r .x) (b .first), lt-leb jobs (r .y) (b .second), lt-leb jobs (r .z) (b .third)),
-    rw (false-lt {a = r .k} {b = minus 20160} (le-make (omega (arith, abs-parts (r .k), b .offset))),
-    false-lt {a = pos 20160} {b = r .k} (le-make (omega (arith, abs-parts (r .k), b .offset)))))
+rule-passes jobs r b = (
+  rw (lt-leb jobs (r .x) (b .first), lt-leb jobs (r .y) (b .second), lt-leb jobs (r .z) (b .third)),
+  rw (
+    false-lt {a = r .k} {b = minus 20160} (le-make (omega (arith, abs-parts (r .k), b .offset))),
+    false-lt {a = pos 20160} {b = r .k} (le-make (omega (arith, abs-parts (r .k), b .offset))),
+  ),
+)
 
 rule-in : (jobs : ℕ) (r : Rule) → jobOutside jobs r ≡ false → offsetOutside r ≡ false → InBook jobs r
 unfolding jobOutside offsetOutside
@@ -54,8 +57,8 @@ rule-in jobs r j k =
       second = leb-false jobs (r .y) y;
       third = leb-false jobs (r .z) z;
       offset = ⊎-elim
-        (λ (p : up (r .k) ≡ 0). omega (arith, abs-parts (r .k), le-read (lt-false (r .k) (minus 20160) low)))
-        (λ (p : dn (r .k) ≡ 0). omega (arith, abs-parts (r .k), le-read (lt-false (pos 20160) (r .k) high))) (one-part (r .k));
+          (λ (p : up (r .k) ≡ 0). omega (arith, abs-parts (r .k), le-read (lt-false (r .k) (minus 20160) low)))
+          (λ (p : dn (r .k) ≡ 0). omega (arith, abs-parts (r .k), le-read (lt-false (pos 20160) (r .k) high))) (one-part (r .k));
     }
 
 rules-pass : (jobs at : ℕ) (rules : List Rule) → Each (InBook jobs) rules → Each (λ c. c .fails ≡ false) (ruleChecks jobs at rules)

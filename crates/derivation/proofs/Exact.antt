@@ -18,26 +18,23 @@ use Rattle.maxatom.proofs.Rules.{clausesOf, keeps-all, room-zero, zero-time}
 use Rattle.maxatom.proofs.Plans.{plan-unique, plan-at-zero}
 use Rattle.derivation.specs.Step.{State, initial, belowFloor}
 use Rattle.derivation.specs.Play.{rounds}
-use Rattle.derivation.specs.Run.{End, planned, fell, unfinished, solve}
+use Rattle.derivation.specs.Run.{End, planned, fell, unfinished, passBound, solve}
 use Rattle.derivation.specs.Demands.{Exact, Demand2, RunFacts, PlanFacts}
 use Rattle.derivation.proofs.Reached.{Reached, set-of, high-test, floor-low}
 use Rattle.derivation.proofs.AnyOrder.{played, is-plan, with-plan}
 use Rattle.derivation.proofs.Passes.{PassesAre, passes-are, runOn}
 
--- more passes than a run needs, as calls, and the state after them
-abbrev enough : ℕ → List Rule → ℕ
-enough jobs rules = jobs * total rules + 2
-
+-- the state after the calls of all passes
 abbrev last : ℕ → List Rule → State
-last jobs rules = runOn jobs rules (initial jobs) (rounds (enough jobs rules) (length rules))
+last jobs rules = runOn jobs rules (initial jobs) (rounds (passBound jobs rules) (length rules))
 
 module _ {jobs : ℕ} {rules : List Rule} (a : Accepted jobs rules) where
   reached : Reached jobs rules (last jobs rules)
   reached = played a (initial jobs) start _ .reached
 
-  run : PassesAre jobs rules (initial jobs) (enough jobs rules) (solve jobs rules)
+  run : PassesAre jobs rules (initial jobs) (passBound jobs rules) (solve jobs rules)
   unfolding solve
-  run = passes-are a (enough jobs rules) (initial jobs) start (high-test (floor rules) (replicate jobs (pos 0)) (λ job. rw (zero-time jobs job) (floor-low a)))
+  run = passes-are a (passBound jobs rules) (initial jobs) start (high-test (floor rules) (replicate jobs (pos 0)) (λ job. rw (zero-time jobs job) (floor-low a)))
 
   plan-is : solve jobs rules .end ≡ planned → Plan jobs rules (solve jobs rules .times)
   plan-is e = rw (run .times-is) at (is-plan a reached (rw (run .times-is) (run .planned-is e)))

@@ -1,4 +1,4 @@
--- The bench run is its round-robin list of hand steps, and ends within n × K + 2 passes. Assumes nothing.
+-- The bench run is its round-robin list of hand steps, and ends within n × K + 1 passes. Assumes nothing.
 use mathlib.Core.Path.{_≡_, refl, sym, ap, subst, _∙_}
 use mathlib.Core.Bool.{Bool, true, false, cond}
 use mathlib.Core.List.{List, [], _∷_, _++_}
@@ -16,11 +16,11 @@ use Rattle.maxatom.specs.declared.Rule.{Rule}
 use Rattle.maxatom.proofs.Choose.{cond-yes, cond-no, clash}
 use Rattle.maxatom.proofs.Integers.{le-read, lt-read, lt-true, lt-false, by-test-not}
 use Rattle.maxatom.proofs.Lists.{set-time}
-use Rattle.maxatom.proofs.Derivations.{longest}
+use Rattle.maxatom.proofs.Derivations.{longest-high}
 use Rattle.maxatom.proofs.Rules.{room-zero}
 use Rattle.derivation.specs.Step.{State, ruleAt, belowFloor, stepOn, Called, stepCall}
 use Rattle.derivation.specs.Play.{Entry, play, endState, upFrom, rounds}
-use Rattle.derivation.specs.Run.{End, planned, fell, unfinished, Run, pass, fallen, passes}
+use Rattle.derivation.specs.Run.{End, planned, fell, unfinished, Run, pass, fallen, passes, passBound}
 use Rattle.derivation.proofs.Reached.{Reached, set-of, high-test, test-high, floor-low, View, no-rule, too-low, kept, steps, view}
 use Rattle.derivation.proofs.AnyOrder.{each-at, reached-step, allowed, played}
 
@@ -177,7 +177,7 @@ module _ {jobs : ℕ} {rules : List Rule} (a : Accepted jobs rules) where
             above = λ k. clash refl k;
             below = λ k. low;
             fell-at = λ job k. subst (λ (j : ℕ). (j < jobs) × (timeAt lowered j <ℤ floor rules)) (fell-is k)
-              ((rw at at (each-at (InBook jobs) rules i h (a .rules-in) .third)), rw left (lt-true q));
+                ((rw at at (each-at (InBook jobs) rules i h (a .rules-in) .third)), rw left (lt-true q));
           }
       go false false p q h at on =
           let broken : satisfied (ruleAt rules i) (state .times) ≡ false = rw at p in
@@ -200,7 +200,7 @@ pub record PassesAre (jobs : ℕ) (rules : List Rule) (state : State) (n : ℕ) 
   pub steps-is : runOn jobs rules state (rounds n (length rules)) .tally .steps ≡ w .steps
   pub planned-is : w .end ≡ planned → AllSatisfied rules (w .times)
   pub fell-at : (job : ℕ) → w .end ≡ fell job → (job < jobs) × (timeAt (w .times) job <ℤ floor rules)
-  pub ends : jobs * total rules + 2 ≤ n + state .tally .steps → w .end ≡ unfinished → ⊥
+  pub ends : passBound jobs rules ≤ n + state .tally .steps → w .end ≡ unfinished → ⊥
 
 -- three ways to stand
 ends-apart : {j : ℕ} → ((planned ≡ fell j) → ⊥) × ((planned ≡ unfinished) → ⊥) × ((fell j ≡ unfinished) → ⊥)
@@ -223,7 +223,7 @@ module _ {jobs : ℕ} {rules : List Rule} (a : Accepted jobs rules) where
         steps-is = refl;
         planned-is = λ e. absurd (ends-apart {j = 0} .1 (sym e));
         fell-at = λ job e. not-fell e;
-        ends = λ few e. omega (arith, longest (set-of a) d, room-zero jobs rules);
+        ends = λ few e. omega (arith, longest-high (set-of a) d (test-high (floor rules) (state .times) (floor-low a) above), room-zero jobs rules);
       }
   passes-are (suc n) state d above =
       let p = pass-is a rules 0 state d above refl in

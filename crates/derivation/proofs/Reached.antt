@@ -86,15 +86,18 @@ module _ {jobs : ℕ} {rules : List Rule} (a : Accepted jobs rules) where
     range-is =
         range-test (total rules) (state .times)
         (time-each (λ (t : ℤ). (minus (2 * total rules) ≤ℤ t) × (t ≤ℤ pos 0)) (state .times)
-        (λ job. (le-make
-        (omega
-        (arith,
-        le-read (not-far (set-of a .weighed) (floor-under (set-of a)) d job),
-        add-parts (timeAt (state .times) job) (pos (totalOf (clausesOf rules))),
-        total-same rules,
-        minus-parts (total rules),
-        minus-parts (2 * total rules))),
-        not-after job)))
+        (λ job. (
+          le-make
+              (omega (
+                arith,
+                le-read (not-far (set-of a .weighed) (floor-under (set-of a)) d job),
+                add-parts (timeAt (state .times) job) (pos (totalOf (clausesOf rules))),
+                total-same rules,
+                minus-parts (total rules),
+                minus-parts (2 * total rules),
+              )),
+          not-after job,
+        )))
 
     fits-is : fits (state .tally) (state .times) ≡ true
     unfolding fits
@@ -103,13 +106,14 @@ module _ {jobs : ℕ} {rules : List Rule} (a : Accepted jobs rules) where
         sums : pos (state .tally .minutes) ≡ negℤ (sumZ (state .times))
         sums =
             eq-make
-            (omega
-            (arith,
-            minutes-lost (set-of a) d,
-            sum-parts (state .times),
-            neg-parts (sumZ (state .times)),
-            sum-zero up jobs refl,
-            sum-zero dn jobs refl))
+            (omega (
+              arith,
+              minutes-lost (set-of a) d,
+              sum-parts (state .times),
+              neg-parts (sumZ (state .times)),
+              sum-zero up jobs refl,
+              sum-zero dn jobs refl,
+            ))
 
     -- what a call from here does
     pub reply-is : (number : ℕ) → stepCall jobs rules state number .said ≡ reply

@@ -13,7 +13,7 @@ use Rattle.maxatom.specs.declared.Rule.{Rule}
 use Rattle.derivation.specs.Refusals.{refused}
 use Rattle.derivation.specs.Step.{State, initial, ruleAt, belowFloor}
 use Rattle.derivation.specs.Play.{Entry, play, endState, stepped, countSteps, sumMinutes, rounds}
-use Rattle.derivation.specs.Run.{Run, planned, fell, unfinished, solve}
+use Rattle.derivation.specs.Run.{Run, planned, fell, unfinished, passBound, solve}
 
 -- Demand 3. "which calls stepped": it named a rule of the book, broken just then, while no job stood below the floor
 pub record Due (rules : List Rule) (e : Entry) : Type 0 where
@@ -84,8 +84,8 @@ pub record RunFacts (jobs : ℕ) (rules : List Rule) : Type 0 where
   pub plan-steps : solve jobs rules .end ≡ planned → solve jobs rules .steps ≤ jobs * total rules
   pub none-steps : (job : ℕ) → solve jobs rules .end ≡ fell job → solve jobs rules .steps ≤ jobs * total rules + 1
   pub fallen : (job : ℕ) → solve jobs rules .end ≡ fell job → (job < jobs) × (timeAt (solve jobs rules .times) job <ℤ floor rules)
-  pub same-times : finally jobs rules (rounds (jobs * total rules + 2) (length rules)) .times ≡ solve jobs rules .times
-  pub same-steps : finally jobs rules (rounds (jobs * total rules + 2) (length rules)) .tally .steps ≡ solve jobs rules .steps
+  pub same-times : finally jobs rules (rounds (passBound jobs rules) (length rules)) .times ≡ solve jobs rules .times
+  pub same-steps : finally jobs rules (rounds (passBound jobs rules) (length rules)) .tally .steps ≡ solve jobs rules .steps
 
 -- what document 01 says of plans
 pub record PlanFacts (jobs : ℕ) (rules : List Rule) : Type 0 where

@@ -46,6 +46,10 @@ passes (suc n) f rules times steps =
     cond (fallen (w .end)) w
     (cond (eqb (w .steps) steps) (record { times = w .times; steps = w .steps; end = planned }) more)
 
--- bench run; n × K + 2 passes are always enough
+-- n × K + 1 passes are always enough (`ends` of RunFacts)
+abbrev pub passBound : ℕ → List Rule → ℕ
+passBound jobs rules = jobs * total rules + 1
+
+-- bench run
 unfoldable pub solve : ℕ → List Rule → Run
-solve jobs rules = passes (jobs * total rules + 2) (floor rules) rules (initial jobs .times) 0
+solve jobs rules = passes (passBound jobs rules) (floor rules) rules (initial jobs .times) 0

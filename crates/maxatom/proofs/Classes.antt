@@ -54,10 +54,11 @@ module _ (r : Rule) where
 
 -- of four tests of which one holds, the others fail
 others : (a b c d : Bool) → bitOf a + bitOf b + bitOf c + bitOf d ≡ 1 → a ≡ true → (b ≡ false) × (c ≡ false) × (d ≡ false)
-others a b c d s h =
-    (by-test b (λ e. omega (arith, ap bitOf h, ap bitOf e)),
-    by-test c (λ e. omega (arith, ap bitOf h, ap bitOf e)),
-    by-test d (λ e. omega (arith, ap bitOf h, ap bitOf e)))
+others a b c d s h = (
+  by-test b (λ e. omega (arith, ap bitOf h, ap bitOf e)),
+  by-test c (λ e. omega (arith, ap bitOf h, ap bitOf e)),
+  by-test d (λ e. omega (arith, ap bitOf h, ap bitOf e)),
+)
 
 both : (p q : Bool) → (p && q) ≡ true → (p ≡ true) × (q ≡ true)
 both true q e = (refl, e)
@@ -141,8 +142,10 @@ module _ (times : List ℤ) where
     where
       x : ℤ
       x = timeAt times (r .x)
+
       y : ℤ
       y = timeAt times (r .y)
+
       z : ℤ
       z = timeAt times (r .z)
 

@@ -85,14 +85,15 @@ module _ {cs : List Clause} {floor : ℤ} {latest : List ℤ} where
       lowest : floor ≤ℤ (leftOf (timeAt b) c +ℤ pos (totalOf cs))
       lowest =
           le-make
-          (omega
-          (arith,
-          le-read (reached (timeAt b) a (c .others) here),
-          add-parts (timeAt b (a .job)) (a .offset),
-          add-parts (leftOf (timeAt b) c) (pos (totalOf cs)),
-          le-read (due .high (a .job)),
-          each-in (λ (x : Clause). Each (λ (y : Arm). dn (y .offset) ≤ x .weight) (x .first ∷ x .others)) cs w (due .among) .0,
-          weight-total cs (due .among)))
+          (omega (
+            arith,
+            le-read (reached (timeAt b) a (c .others) here),
+            add-parts (timeAt b (a .job)) (a .offset),
+            add-parts (leftOf (timeAt b) c) (pos (totalOf cs)),
+            le-read (due .high (a .job)),
+            each-in (λ (x : Clause). Each (λ (y : Arm). dn (y .offset) ≤ x .weight) (x .first ∷ x .others)) cs w (due .among) .0,
+            weight-total cs (due .among),
+          ))
 
 -- what a derivation starts from: each arm is weighed, each target is a job, and the floor is the total below every latest time
 pub record Setting (cs : List Clause) (floor : ℤ) (latest : List ℤ) : Type 0 where
@@ -124,12 +125,13 @@ module _ {cs : List Clause} {floor : ℤ} {latest : List ℤ} (set : Setting cs 
       let z = c .target in
       let v = leftOf (timeAt b) c in
       let h : z < length b = subst (λ (n : ℕ). z < n) (sym (same-length d)) (each-in (λ (x : Clause). x .target < length latest) cs (set .targets) (due .among)) in
-      omega
-      (arith,
-      minutes-lost d,
-      sum-set up b z v h,
-      sum-set dn b z v h,
-      off-parts (timeAt b z) v (le-make (omega (arith, lt-read (due .violated)))))
+      omega (
+        arith,
+        minutes-lost d,
+        sum-set up b z v h,
+        sum-set dn b z v h,
+        off-parts (timeAt b z) v (le-make (omega (arith, lt-read (due .violated)))),
+      )
 
   few-minutes : {b : List ℤ} {s m : ℕ} → Derivation cs floor latest b s m → ((job : ℕ) → floor ≤ℤ timeAt b job) → m ≤ room floor latest
   few-minutes {b = b} d h = omega (arith, minutes-lost d, high-room floor latest b (same-length d) h)

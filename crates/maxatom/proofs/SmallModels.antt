@@ -32,12 +32,13 @@ module _ (t : Assignment) where
   covered-count [] m w d = omega (arith, count-none d)
   covered-count (c ∷ cs) (k, m) w d =
       let r = chosen c k in
-      omega
-      (arith,
-      count-or (within (dn (t (r .arm .job))) (dn (r .arm .offset))) (covered cs m) d,
-      within-count (dn (t (r .arm .job))) (dn (r .arm .offset)) d,
-      each-in (λ (a : Arm). dn (a .offset) ≤ c .weight) (c .first ∷ c .others) (w .0) (r .among),
-      covered-count cs m (w .1) d)
+      omega (
+        arith,
+        count-or (within (dn (t (r .arm .job))) (dn (r .arm .offset))) (covered cs m) d,
+        within-count (dn (t (r .arm .job))) (dn (r .arm .offset)) d,
+        each-in (λ (a : Arm). dn (a .offset) ≤ c .weight) (c .first ∷ c .others) (w .0) (r .among),
+        covered-count cs m (w .1) d,
+      )
 
 -- only the places that pass the test are kept
 abbrev squeeze : (ℕ → Bool) → Assignment → Assignment
@@ -52,18 +53,19 @@ squeeze-arm : (p : ℕ → Bool) (t : Assignment) → NotAfterZero t → (z v : 
     t z ≤ℤ (t v +ℤ k) → squeeze p t z ≤ℤ (squeeze p t v +ℤ k)
 squeeze-arm p t low z v k cov h =
     le-make
-    (omega
-    (arith,
-    le-read h,
-    up-zero (low z),
-    up-zero (low v),
-    add-parts (t v) k,
-    add-parts (squeeze p t v) k,
-    minus-parts (count p (dn (t v))),
-    minus-parts (count p (dn (t z))),
-    count-all p (dn (t v)) (dn k) (λ u a b. cov u (within-true (dn (t v)) (dn k) u a b)),
-    count-slow p (dn (t z)) (up k),
-    count-mono p (dn (t v) + dn k) (dn (t z) + up k) (omega (arith, le-read h, up-zero (low z), up-zero (low v), add-parts (t v) k))))
+    (omega (
+      arith,
+      le-read h,
+      up-zero (low z),
+      up-zero (low v),
+      add-parts (t v) k,
+      add-parts (squeeze p t v) k,
+      minus-parts (count p (dn (t v))),
+      minus-parts (count p (dn (t z))),
+      count-all p (dn (t v)) (dn k) (λ u a b. cov u (within-true (dn (t v)) (dn k) u a b)),
+      count-slow p (dn (t z)) (up k),
+      count-mono p (dn (t v) + dn k) (dn (t z) + up k) (omega (arith, le-read h, up-zero (low z), up-zero (low v), add-parts (t v) k)),
+    ))
 
 or-right : (a b : Bool) → b ≡ true → (a || b) ≡ true
 or-right true b e = refl
@@ -74,10 +76,11 @@ squeeze-keeps : (p : ℕ → Bool) (t : Assignment) → NotAfterZero t → (cs :
 unfolding covered spanned
 squeeze-keeps p t low [] m cov = tt
 squeeze-keeps p t low (c ∷ cs) (k, m) cov =
-    let r = chosen t c k in
-    (≤ℤ-trans (squeeze-arm p t low (c .target) (r .arm .job) (r .arm .offset) (λ u e. cov u (rw e)) (r .reaches))
-    (reached (squeeze p t) (c .first) (c .others) (r .among)),
-    squeeze-keeps p t low cs m (λ u e. cov u (or-right (spanned t c k u) (covered t cs m u) e)))
+    let r = chosen t c k in (
+      ≤ℤ-trans (squeeze-arm p t low (c .target) (r .arm .job) (r .arm .offset) (λ u e. cov u (rw e)) (r .reaches))
+          (reached (squeeze p t) (c .first) (c .others) (r .among)),
+      squeeze-keeps p t low cs m (λ u e. cov u (or-right (spanned t c k u) (covered t cs m u) e)),
+    )
 
 -- what Lemma 2 gives: a model under the latest times, no lower than `low` minus the total
 pub record Small (cs : List Clause) (latest : Assignment) (low : ℤ) : Type 0 where
@@ -113,14 +116,15 @@ module _ (cs : List Clause) (weighed : Weighed cs) where
       near′ job =
           let d = dn (t job) in
           le-make
-          (omega
-          (arith,
-          minus-parts (count p d),
-          add-parts (squeeze p t job) (pos (totalOf cs)),
-          count-or (within 0 (dn low)) (covered t cs m) d,
-          within-count 0 (dn low) d,
-          covered-count t cs m weighed d,
-          up-zero (≤ℤ-trans (lowest job) (neg job))))
+          (omega (
+            arith,
+            minus-parts (count p d),
+            add-parts (squeeze p t job) (pos (totalOf cs)),
+            count-or (within 0 (dn low)) (covered t cs m) d,
+            within-count 0 (dn low) d,
+            covered-count t cs m weighed d,
+            up-zero (≤ℤ-trans (lowest job) (neg job)),
+          ))
 
   -- whatever the sign of the latest times
   pub lemma-2 : (latest : Assignment) (low top : ℤ) → ((job : ℕ) → low ≤ℤ latest job) → ((job : ℕ) → latest job ≤ℤ top) →
@@ -130,17 +134,18 @@ module _ (cs : List Clause) (weighed : Weighed cs) where
         times = λ job. s .times job +ℤ top;
         keeps = lemma-1 cs (s .times) top (s .keeps);
         under = λ job.
-          le-make (omega (arith, le-read (s .under job), add-parts (s .times job) top, add-parts (latest job) d, neg-parts top));
+            le-make (omega (arith, le-read (s .under job), add-parts (s .times job) top, add-parts (latest job) d, neg-parts top));
         near = λ job.
-          le-make
-          (omega
-          (arith,
-          le-read (s .near job),
-          add-parts (s .times job) top,
-          add-parts (s .times job +ℤ top) (pos (totalOf cs)),
-          add-parts (s .times job) (pos (totalOf cs)),
-          add-parts low d,
-          neg-parts top));
+            le-make
+            (omega (
+              arith,
+              le-read (s .near job),
+              add-parts (s .times job) top,
+              add-parts (s .times job +ℤ top) (pos (totalOf cs)),
+              add-parts (s .times job) (pos (totalOf cs)),
+              add-parts low d,
+              neg-parts top,
+            ));
       }
     where
       d : ℤ

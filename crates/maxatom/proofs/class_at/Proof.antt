@@ -9,13 +9,14 @@ returns-7 : tie.Need-returns-7
 unfolding classAt
 returns-7 c =
     let n = c .match .rest in
-    rw
-    (ne-eqb _ _ (n .0 .0 .0 .0 .1),
-    ne-eqb _ _ (n .0 .0 .0 .1),
-    ne-eqb _ _ (n .1),
-    ne-eqb _ _ (n .0 .0 .0 .0 .0 .1),
-    ne-eqb _ _ (n .0 .0 .1),
-    ne-eqb _ _ (n .0 .1))
+    rw (
+      ne-eqb _ _ (n .0 .0 .0 .0 .1),
+      ne-eqb _ _ (n .0 .0 .0 .1),
+      ne-eqb _ _ (n .1),
+      ne-eqb _ _ (n .0 .0 .0 .0 .0 .1),
+      ne-eqb _ _ (n .0 .0 .1),
+      ne-eqb _ _ (n .0 .1),
+    )
 
 pub class-at-spec : {M : Type 1} → statement M
 unfolding classAt
