@@ -16,6 +16,9 @@ use Rattle.maxatom.proofs.Choose.{cond-yes, cond-no, clash}
 use Rattle.maxatom.proofs.Integers.{up, dn, le-read, le-make, lt-false, false-lt, abs-parts, minus-parts, one-part}
 use Rattle.derivation.specs.Refusals.{Reply, refused, answer, accepts, Check, reply, tableChecks, jobsCheck, countCheck, ruleChecks, jobOutside, offsetOutside}
 
+answer-not : {A : Type 0} {a : A} {number place : ℕ} → answer a ≡ refused number place → ⊥
+answer-not e = let z : _≡_ {A = ℕ} 0 1 = cc in omega arith
+
 module _ {A : Type 0} (a : A) where
   -- the first check fails, or passes
   pub says : (c : Check) (checks : List Check) → c .fails ≡ true → reply (c ∷ checks) a ≡ refused (c .number) (c .place)
@@ -67,6 +70,7 @@ rules-pass jobs at [] e = tt
 rules-pass jobs at (r ∷ rules) e = let p = rule-passes jobs r (e .0) in (p .0, (p .1, rules-pass jobs (at + 1) rules (e .1)))
 
 pub table-passes : {jobs : ℕ} {rules : List Rule} → Accepted jobs rules → Each (λ c. c .fails ≡ false) (tableChecks jobs rules)
+unfolding tableChecks
 table-passes {jobs = jobs} {rules = rules} a =
     (rw (le-ltb jobs 1 (a .some), le-ltb 256 jobs (a .few)), (le-ltb 1024 (length rules) (a .short), rules-pass jobs 0 rules (a .rules-in)))
 
@@ -93,7 +97,7 @@ accepting (c ∷ checks) a e = cond-no _ _ (e .0) ∙ accepting checks a (e .1)
 
 -- 4, 5, 6 and 7 leave over just the accepted books
 pub accepted-iff : {A : Type 0} (a : A) (jobs : ℕ) (rules : List Rule) → Accepted jobs rules ↔ (accepts (reply (tableChecks jobs rules) a) ≡ true)
-unfolding accepts
+unfolding accepts tableChecks
 accepted-iff a jobs rules = ((λ b. rw (accepting (tableChecks jobs rules) a (table-passes b))), back)
   where
     back : accepts (reply (tableChecks jobs rules) a) ≡ true → Accepted jobs rules
@@ -106,3 +110,19 @@ accepted-iff a jobs rules = ((λ b. rw (accepting (tableChecks jobs rules) a (ta
           short = ltb-false 1024 (length rules) (p .1 .0);
           rules-in = rules-all jobs 0 rules (p .1 .1);
         }
+
+-- a list of checks, with more behind it: its own refusal, or what the others say
+module _ {A B : Type 0} (a : A) (b : B) where
+  pub refused-append : (checks more : List Check) {number place : ℕ} → reply checks a ≡ refused number place → reply (checks ++ more) b ≡ refused number place
+  unfolding reply
+  refused-append [] more e = absurd (answer-not e)
+  refused-append (c ∷ checks) more {number = n} {place = p} e = go (c .fails) (λ f. refused-append checks more f) e
+    where
+      go : (t : Bool) → (reply checks a ≡ refused n p → reply (checks ++ more) b ≡ refused n p) →
+          cond t (refused (c .number) (c .place)) (reply checks a) ≡ refused n p → cond t (refused (c .number) (c .place)) (reply (checks ++ more) b) ≡ refused n p
+      go true f q = cc
+      go false f q = f q
+
+  pub answered-append : (checks more : List Check) → reply checks a ≡ answer a → reply (checks ++ more) b ≡ reply more b
+  unfolding accepts
+  answered-append checks more e = skips-all b checks more (passed checks a (ap accepts e))

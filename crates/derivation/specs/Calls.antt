@@ -6,7 +6,7 @@ use lib.ListN.{length, replicate}
 use lib.IntN.{ℤ, pos}
 use Rattle.maxatom.specs.Rule.{satisfied, tight}
 use Rattle.maxatom.specs.declared.Rule.{Rule}
-use Rattle.derivation.specs.Refusals.{Reply, Check, reply, lent, jobsCheck, tableChecks, sizeCheck, ruleCheck}
+use Rattle.derivation.specs.Refusals.{Reply, Check, reply, verdict, lent, jobsCheck, tableChecks, sizeCheck, ruleCheck}
 use Rattle.derivation.specs.Step.{ruleAt}
 use Rattle.derivation.specs.Run.{Run, solve}
 
@@ -37,7 +37,7 @@ tightCall jobs rules times number =
 
 -- fresh board: the reply, and the lent board after
 unfoldable pub initialReply : ℕ → List ℤ → Reply (Unit {0})
-initialReply jobs times = reply (jobsCheck jobs ∷ sizeCheck jobs times ∷ []) tt
+initialReply jobs times = verdict (jobsCheck jobs ∷ sizeCheck jobs times ∷ [])
 
 unfoldable pub initialTimes : ℕ → List ℤ → List ℤ
 initialTimes jobs times = lent (initialReply jobs times) times (replicate jobs (pos 0))

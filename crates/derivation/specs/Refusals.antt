@@ -35,6 +35,10 @@ reply (c ∷ checks) a =
     let rest = reply checks a in
     cond (c .fails) (refused (c .number) (c .place)) rest
 
+-- the reply of a call whose answer is that it was done
+abbrev pub verdict : List Check → Reply (Unit {0})
+verdict checks = reply checks tt
+
 -- what is lent, after a call: nothing lent changes where it is refused
 unfoldable pub lent : {A S : Type 0} → Reply A → S → S → S
 lent (refused number place) before after = before
@@ -62,7 +66,7 @@ ruleChecks jobs at [] = []
 ruleChecks jobs at (r ∷ rules) = check (jobOutside jobs r) 6 at ∷ check (offsetOutside r) 7 at ∷ ruleChecks jobs (at + 1) rules
 
 -- a table
-abbrev pub tableChecks : ℕ → List Rule → List Check
+unfoldable pub tableChecks : ℕ → List Rule → List Check
 tableChecks jobs rules = jobsCheck jobs ∷ countCheck (length rules) ∷ ruleChecks jobs 0 rules
 
 -- 21: board or run buffer not n times long

@@ -9,7 +9,7 @@ use lib.Signed.{leZ, ltZ}
 use Rattle.maxatom.specs.Rule.{timeAt, leftSide, satisfied, eqZ, minutesOff}
 use Rattle.maxatom.specs.Book.{total, floor, minus}
 use Rattle.maxatom.specs.declared.Rule.{Rule}
-use Rattle.derivation.specs.Refusals.{Reply, Check, check, reply, lent, tableChecks, sizeCheck, ruleCheck}
+use Rattle.derivation.specs.Refusals.{Reply, Check, check, verdict, lent, tableChecks, sizeCheck, ruleCheck}
 use Rattle.derivation.specs.declared.Tally.{Tally}
 
 -- a board and the tally lent with it
@@ -75,5 +75,5 @@ pub record Called : Type 0 where
 -- hand step
 unfoldable pub stepCall : ℕ → List Rule → State → ℕ → Called
 stepCall jobs rules state number =
-    let said = reply (stepChecks jobs rules state number) tt in
+    let said = verdict (stepChecks jobs rules state number) in
     record { said = said; after = lent said state (stepOn (ruleAt rules number) state) }

@@ -5,3 +5,9 @@ pub struct Tally {
     pub steps: u64,
     pub minutes: u64,
 }
+
+// A refusal: document 01's number, and its place.
+pub struct Refusal {
+    pub number: u8,
+    pub place: usize,
+}

@@ -186,3 +186,8 @@ add-mono a b k h = le-make (omega (arith, le-read h, add-parts a k, add-parts b 
 -- what lies below the larger of two lies below one of them
 pub max-split : (v a b k : ℤ) → v ≤ℤ (maxZ a b +ℤ k) → (v ≤ℤ (a +ℤ k)) ⊎ (v ≤ℤ (b +ℤ k))
 max-split v a b k h = ⊎-elim (λ m. inl (rw (m .0) at h)) (λ m. inr (rw (m .0) at h)) (max-cases a b)
+
+-- a sum is no further from zero than its parts
+pub add-bounds : (a b : ℤ) → (up (a +ℤ b) ≤ up a + up b) × (dn (a +ℤ b) ≤ dn a + dn b)
+add-bounds a b =
+    ⊎-elim (λ (p : up (a +ℤ b) ≡ 0). omega (arith, add-parts a b)) (λ (p : dn (a +ℤ b) ≡ 0). omega (arith, add-parts a b)) (one-part (a +ℤ b))
