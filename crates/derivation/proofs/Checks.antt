@@ -1,20 +1,20 @@
 -- The refusals: which check is the first to fail, and that a table's checks leave over just the accepted books. Assumes nothing.
-use mathlib.Core.Path.{_≡_, refl, sym, ap, _∙_}
+use mathlib.Core.Path.{_≡_, refl, sym, ap, subst, _∙_}
 use mathlib.Core.Logic.{_↔_, _⊎_, inl, inr, ⊎-elim}
 use mathlib.Core.Bool.{Bool, true, false, cond, _||_}
-use mathlib.Core.List.{List, [], _∷_, _++_}
+use mathlib.Core.List.{List, [], _∷_, _++_, append-nil}
 use Prim.Native.Nat.{ℕ, _+_, _<_, _≤_}
 use native.Mathlib.Omega.{arith}
 use lib.Dec.{leb, ltb}
 use lib.ListN.{length}
 use lib.IntN.{ℤ, pos, natAbs}
 use lib.Signed.{ltZ}
-use borrow.Author.Tests.{leb-false, ltb-false, le-ltb, lt-leb}
+use borrow.Author.Tests.{leb-false, ltb-false, le-ltb, lt-leb, eqb-true, eq-eqb, not-false}
 use Rattle.maxatom.specs.Book.{Each, InBook, Accepted, minus}
 use Rattle.maxatom.specs.declared.Rule.{Rule}
 use Rattle.maxatom.proofs.Choose.{cond-yes, cond-no, clash}
 use Rattle.maxatom.proofs.Integers.{up, dn, le-read, le-make, lt-false, false-lt, abs-parts, minus-parts, one-part}
-use Rattle.derivation.specs.Refusals.{Reply, refused, answer, accepts, Check, reply, tableChecks, jobsCheck, countCheck, ruleChecks, jobOutside, offsetOutside}
+use Rattle.derivation.specs.Refusals.{Reply, refused, answer, accepts, Check, reply, tableChecks, timesChecks, jobsCheck, countCheck, ruleChecks, jobOutside, offsetOutside}
 
 answer-not : {A : Type 0} {a : A} {number place : ℕ} → answer a ≡ refused number place → ⊥
 answer-not e = let z : _≡_ {A = ℕ} 0 1 = cc in omega arith
@@ -74,6 +74,19 @@ unfolding tableChecks
 table-passes {jobs = jobs} {rules = rules} a =
     (rw (le-ltb jobs 1 (a .some), le-ltb 256 jobs (a .few)), (le-ltb 1024 (length rules) (a .short), rules-pass jobs 0 rules (a .rules-in)))
 
+pub each-join : {A : Type 0} (P : A → Type 0) (l m : List A) → Each P l → Each P m → Each P (l ++ m)
+each-join P [] m p q = q
+each-join P (a ∷ l) m p q = (p .0, each-join P l m (p .1) q)
+
+pub each-left : {A : Type 0} (P : A → Type 0) (l m : List A) → Each P (l ++ m) → Each P l × Each P m
+each-left P [] m p = (tt, p)
+each-left P (a ∷ l) m p = let q = each-left P l m (p .1) in ((p .0, q .0), q .1)
+
+-- a table with as many times as jobs
+pub times-pass : {jobs : ℕ} {rules : List Rule} (times : List ℤ) → Accepted jobs rules → length times ≡ jobs → Each (λ c. c .fails ≡ false) (timesChecks jobs rules times)
+unfolding timesChecks
+times-pass {jobs = jobs} {rules = rules} times a e = each-join (λ c. c .fails ≡ false) (tableChecks jobs rules) _ (table-passes a) (rw (eq-eqb (length times) jobs e), tt)
+
 rules-all : (jobs at : ℕ) (rules : List Rule) → Each (λ c. c .fails ≡ false) (ruleChecks jobs at rules) → Each (InBook jobs) rules
 unfolding ruleChecks
 rules-all jobs at [] e = tt
@@ -123,6 +136,22 @@ module _ {A B : Type 0} (a : A) (b : B) where
       go true f q = cc
       go false f q = f q
 
+  -- a refusal does not depend on the answer
+  pub refused-same : (checks : List Check) {number place : ℕ} → reply checks a ≡ refused number place → reply checks b ≡ refused number place
+  refused-same checks {number = n} {place = p} e = subst (λ (l : List Check). reply l b ≡ refused n p) (append-nil checks) (refused-append checks [] e)
+
+  pub answered-same : (checks : List Check) → reply checks a ≡ answer a → reply checks b ≡ answer b
+  unfolding accepts
+  answered-same checks e = accepting checks b (passed checks a (ap accepts e))
+
   pub answered-append : (checks more : List Check) → reply checks a ≡ answer a → reply (checks ++ more) b ≡ reply more b
   unfolding accepts
   answered-append checks more e = skips-all b checks more (passed checks a (ap accepts e))
+
+-- and back
+pub times-accepted : {A : Type 0} (a : A) (jobs : ℕ) (rules : List Rule) (times : List ℤ) → reply (timesChecks jobs rules times) a ≡ answer a →
+    Accepted jobs rules × (length times ≡ jobs)
+unfolding timesChecks accepts
+times-accepted a jobs rules times e =
+    let p = each-left (λ c. c .fails ≡ false) (tableChecks jobs rules) _ (passed (timesChecks jobs rules times) a (ap accepts e)) in
+    (accepted-iff a jobs rules .1 (ap accepts (accepting (tableChecks jobs rules) a (p .0))), eqb-true (length times) jobs (not-false _ (p .1 .0)))

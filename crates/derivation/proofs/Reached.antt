@@ -21,9 +21,9 @@ use Rattle.maxatom.proofs.Clauses.{Clause, leftOf, totalOf}
 use Rattle.maxatom.proofs.Derivations.{Derivation, start, step, Setting, same-length, under-latest, few-steps, not-far, minutes-lost, floor-under}
 use Rattle.maxatom.proofs.Rules.{clauseOf, clausesOf, left-same, in-clauses, total-same, setting, zero-time}
 use Rattle.derivation.specs.declared.Tally.{Tally}
-use Rattle.derivation.specs.Refusals.{Reply, refused, answer, Check, reply, lent, check, tableChecks, sizeCheck, ruleCheck}
+use Rattle.derivation.specs.Refusals.{Reply, refused, answer, Check, reply, lent, check, timesChecks, ruleCheck}
 use Rattle.derivation.specs.Step.{State, initial, ruleAt, inRange, belowFloor, sumZ, fits, stepChecks, stepOn, Called, stepCall}
-use Rattle.derivation.proofs.Checks.{says, skips, skips-all, accepting, table-passes}
+use Rattle.derivation.proofs.Checks.{says, skips, skips-all, accepting, times-pass}
 
 abbrev pub Reached : ℕ → List Rule → State → Type 0
 Reached jobs rules state =
@@ -123,10 +123,7 @@ module _ {jobs : ℕ} {rules : List Rule} (a : Accepted jobs rules) where
         ∷ []) tt
     unfolding stepCall stepChecks
     reply-is number =
-        skips-all tt (tableChecks jobs rules) _ (table-passes a)
-        ∙ skips tt _ _ (rw (eq-eqb (length (state .times)) jobs size-is))
-        ∙ skips tt _ _ (rw range-is)
-        ∙ skips tt _ _ (rw fits-is)
+        skips-all tt (timesChecks jobs rules (state .times)) _ (times-pass (state .times) a size-is) ∙ skips tt _ _ (rw range-is) ∙ skips tt _ _ (rw fits-is)
 
   module _ (state : State) (number : ℕ) where
     -- the four things that a call does

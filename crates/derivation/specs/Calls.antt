@@ -6,9 +6,9 @@ use lib.ListN.{length, replicate}
 use lib.IntN.{ℤ, pos}
 use Rattle.maxatom.specs.Rule.{satisfied, tight}
 use Rattle.maxatom.specs.declared.Rule.{Rule}
-use Rattle.derivation.specs.Refusals.{Reply, Check, reply, verdict, lent, jobsCheck, tableChecks, sizeCheck, ruleCheck}
+use Rattle.derivation.specs.Refusals.{Reply, reply, verdict, lent, jobsCheck, sizeCheck, timesChecks, ruleCheck}
 use Rattle.derivation.specs.Step.{ruleAt}
-use Rattle.derivation.specs.Run.{Run, solve}
+use Rattle.derivation.specs.Run.{End, Run, solve}
 
 -- all rules are kept, or the first broken one
 pub data Kept : Type 0 where
@@ -21,10 +21,6 @@ firstViolated at [] times = all
 firstViolated at (r ∷ rules) times =
     let rest = firstViolated (at + 1) rules times in
     cond (satisfied r times) rest (broken at)
-
--- the refusals of a call with a table and n times
-abbrev pub timesChecks : ℕ → List Rule → List ℤ → List Check
-timesChecks jobs rules times = tableChecks jobs rules ++ (sizeCheck jobs times ∷ [])
 
 -- kept test
 unfoldable pub keptCall : ℕ → List Rule → List ℤ → Reply Kept
@@ -42,9 +38,17 @@ initialReply jobs times = verdict (jobsCheck jobs ∷ sizeCheck jobs times ∷ [
 unfoldable pub initialTimes : ℕ → List ℤ → List ℤ
 initialTimes jobs times = lent (initialReply jobs times) times (replicate jobs (pos 0))
 
+-- what the bench run answers: the number of steps, and plan, or none with the job that fell
+pub record Answer : Type 0 where
+  pub steps : ℕ
+  pub end : End
+
+abbrev pub answerOf : Run → Answer
+answerOf run = record { steps = run .steps; end = run .end }
+
 -- bench run: the reply, and the lent buffer after
-unfoldable pub runReply : ℕ → List Rule → List ℤ → Reply Run
-runReply jobs rules buffer = reply (timesChecks jobs rules buffer) (solve jobs rules)
+unfoldable pub runReply : ℕ → List Rule → List ℤ → Reply Answer
+runReply jobs rules buffer = reply (timesChecks jobs rules buffer) (answerOf (solve jobs rules))
 
 unfoldable pub runTimes : ℕ → List Rule → List ℤ → List ℤ
 runTimes jobs rules buffer = lent (runReply jobs rules buffer) buffer (solve jobs rules .times)

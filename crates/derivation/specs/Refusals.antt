@@ -1,6 +1,6 @@
 -- Refusals: document 01's two lists, in their order, each with its number and place.
 use mathlib.Core.Bool.{Bool, true, false, cond, not, _||_}
-use mathlib.Core.List.{List, [], _∷_}
+use mathlib.Core.List.{List, [], _∷_, _++_}
 use Prim.Native.Nat.{ℕ, _+_}
 use lib.Dec.{eqb, leb, ltb}
 use lib.ListN.{length}
@@ -72,6 +72,10 @@ tableChecks jobs rules = jobsCheck jobs ∷ countCheck (length rules) ∷ ruleCh
 -- 21: board or run buffer not n times long
 abbrev pub sizeCheck : ℕ → List ℤ → Check
 sizeCheck jobs times = check (not (eqb (length times) jobs)) 21 0
+
+-- a table with n times
+unfoldable pub timesChecks : ℕ → List Rule → List ℤ → List Check
+timesChecks jobs rules times = tableChecks jobs rules ++ (sizeCheck jobs times ∷ [])
 
 -- 24: no rule of that number
 abbrev pub ruleCheck : ℕ → ℕ → Check

@@ -9,7 +9,7 @@ use lib.Signed.{leZ, ltZ}
 use Rattle.maxatom.specs.Rule.{timeAt, leftSide, satisfied, eqZ, minutesOff}
 use Rattle.maxatom.specs.Book.{total, floor, minus}
 use Rattle.maxatom.specs.declared.Rule.{Rule}
-use Rattle.derivation.specs.Refusals.{Reply, Check, check, verdict, lent, tableChecks, sizeCheck, ruleCheck}
+use Rattle.derivation.specs.Refusals.{Reply, Check, check, verdict, lent, timesChecks, ruleCheck}
 use Rattle.derivation.specs.declared.Tally.{Tally}
 
 -- a board and the tally lent with it
@@ -49,9 +49,8 @@ fits tally times = eqZ (pos (tally .minutes)) (negℤ (sumZ times)) && leb (tall
 -- the refusals of a hand step
 unfoldable pub stepChecks : ℕ → List Rule → State → ℕ → List Check
 stepChecks jobs rules state number =
-    tableChecks jobs rules ++
-    (sizeCheck jobs (state .times)
-    ∷ check (not (inRange (total rules) (state .times))) 22 0
+    timesChecks jobs rules (state .times) ++
+    (check (not (inRange (total rules) (state .times))) 22 0
     ∷ check (not (fits (state .tally) (state .times))) 23 0
     ∷ ruleCheck (length rules) number
     ∷ check (belowFloor (floor rules) (state .times)) 25 0

@@ -1,12 +1,9 @@
 ghost use mathlib.Core.Path.{_≡_};
 ghost use Prim.Native.Nat.{ℕ, _+_, _*_, _<_, _≤_, _^_, min};
-ghost use mathlib.Core.Bool.{not};
-ghost use mathlib.Core.List.{List, [], _∷_, _++_};
-ghost use lib.Dec.{eqb};
 ghost use lib.ListN.{length};
 ghost use lib.IntN.{ℤ, pos, natAbs};
 ghost use Rattle.maxatom.specs.Book.{total, minus};
-ghost use Rattle.derivation.specs.Refusals.{verdict, check, ruleChecks, tableChecks};
+ghost use Rattle.derivation.specs.Refusals.{verdict, ruleChecks, tableChecks, timesChecks};
 ghost use Rattle.table.specs.Columns.{ruleOf, rulesOf, Columns, Small};
 ghost use Rattle.table.specs.Replies.{checkedReply, faultOf};
 use derivation::Refusal;
@@ -106,7 +103,7 @@ pub fn check_table(
     check_rules(n, xs, ys, zs, ks, count)
 }
 
-// The checks of a table with `len` times: those of the table, then 21.
+// The checks of a table with its times: those of the table, then 21.
 pub fn check_times(
     n: usize,
     xs: &[u16],
@@ -114,15 +111,15 @@ pub fn check_times(
     zs: &[u16],
     ks: &[i32],
     count: usize,
-    len: usize,
+    times: &[i32],
 ) -> Checked
     requires { ⌜ Columns (now xs) (now ys) (now zs) (now ks) (min count 1024) ⌝ }
-    ensures { λ r. ⌜ checkedReply r ≡ verdict (tableChecks n (rulesOf (now (xs .entry)) (now (ys .entry)) (now (zs .entry)) (now (ks .entry)) count) ++ (check (not (eqb len n)) 21 0 ∷ [])) ⌝ }
+    ensures { λ r. ⌜ checkedReply r ≡ verdict (timesChecks n (rulesOf (now (xs .entry)) (now (ys .entry)) (now (zs .entry)) (now (ks .entry)) count) (now (times .entry))) ⌝ }
 {
     match check_table(n, xs, ys, zs, ks, count) {
         Checked::Refused(r) => Checked::Refused(r),
         Checked::Accepted => {
-            if len == n {
+            if times.len() == n {
                 Checked::Accepted
             } else {
                 Checked::Refused(Refusal {

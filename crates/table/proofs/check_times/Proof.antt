@@ -1,11 +1,9 @@
 use borrow.Author.Needs.{needs}
 use mathlib.Core.Path.{_≡_, sym, ap, _∙_}
 use borrow.Author.Tests.{eq-eqb, ne-eqb}
-use mathlib.Core.Bool.{not}
-use mathlib.Core.List.{List, [], _∷_, _++_}
-use lib.Dec.{eqb}
+use mathlib.Core.List.{[], _∷_}
 use denote.Ref.{now}
-use Rattle.derivation.specs.Refusals.{verdict, check, tableChecks}
+use Rattle.derivation.specs.Refusals.{verdict, sizeCheck, timesChecks}
 use Rattle.table.specs.Columns.{rulesOf}
 use Rattle.table.specs.declared.Checked.the-variants.{Accepted}
 use Rattle.derivation.proofs.Checks.{says, skips, refused-append, answered-append, accepting}
@@ -14,15 +12,14 @@ use Rattle.table.proofs.check_times.Statement.{statement}
 use Rattle.table.proofs.check_times.Tie as tie
 
 returns : tie.Need-returns
-unfolding checkedReply
+unfolding checkedReply timesChecks
 returns c = sym (refused-append tt tt _ _ (sym (c .before .before .before .check-table .ensures) ∙ ap checkedReply (c .before .r .given .1)))
 
 -- the table passed, so 21 decides
 rest : (t : tie.After-check-table) → t .check-table .result ≡ Accepted →
     let a = t .before .before .before .before .args in
-    verdict (tableChecks (a .n) (rulesOf (now (a .xs)) (now (a .ys)) (now (a .zs)) (now (a .ks)) (a .count)) ++ (check (not (eqb (a .len) (a .n))) 21 0 ∷ []))
-    ≡ verdict (check (not (eqb (a .len) (a .n))) 21 0 ∷ [])
-unfolding checkedReply
+    verdict (timesChecks (a .n) (rulesOf (now (a .xs)) (now (a .ys)) (now (a .zs)) (now (a .ks)) (a .count)) (now (a .times))) ≡ verdict (sizeCheck (a .n) (now (a .times)) ∷ [])
+unfolding checkedReply timesChecks
 rest t e = answered-append tt tt _ _ (sym (t .check-table .ensures) ∙ ap checkedReply e)
 
 returns-2 : tie.Need-returns-2
