@@ -18,6 +18,10 @@ pub fits-read : (w : Width) {z : ℤ} → SFits w z → (up z < 2 ^ hbits w) × 
 fits-read w {z = pos n} f = (f .sfits, omega arith)
 fits-read w {z = negsuc n} f = (omega (arith, f .sfits), omega (arith, f .sfits))
 
+pub abs-fits : {z : ℤ} → SFits w32 z → natAbs z ≤ 2 ^ 31
+abs-fits {z = pos n} f = omega (arith, f .sfits)
+abs-fits {z = negsuc n} f = omega (arith, f .sfits)
+
 -- a field of 32 bits, as a read of it gives it
 pub told : {z : ℤ} → mag z < 2 ^ 31 → toZ w32 (ofZ w32 z) ≡ z
 told h = toZ-ofZ {w = w32} (record { sfits = h })
