@@ -28,7 +28,7 @@ use Rattle.derivation.proofs.AnyOrder.{each-at, reached-step, allowed, 
 abbrev pub runOn : ℕ → List Rule → State → List ℕ → State
 runOn jobs rules state calls = endState state (play jobs rules state calls)
 
-run-append : (jobs : ℕ) (rules : List Rule) (state : State) (xs ys : List ℕ) →
+pub run-append : (jobs : ℕ) (rules : List Rule) (state : State) (xs ys : List ℕ) →
     runOn jobs rules state (xs ++ ys) ≡ runOn jobs rules (runOn jobs rules state xs) ys
 unfolding play endState
 run-append jobs rules state [] ys = refl
@@ -38,7 +38,7 @@ module _ {jobs : ℕ} {rules : List Rule} (a : Accepted jobs rules) where
   f : ℤ
   f = floor rules
 
-  after-step : {state : State} {number : ℕ} {called : Called} → View a state number called → number < length rules →
+  pub after-step : {state : State} {number : ℕ} {called : Called} → View a state number called → number < length rules →
       belowFloor (floor rules) (state .times) ≡ false → satisfied (ruleAt rules number) (state .times) ≡ false →
       called .after ≡ stepOn (ruleAt rules number) state
   after-step (no-rule h) i b s = absurd (omega arith)
@@ -63,24 +63,24 @@ module _ {jobs : ℕ} {rules : List Rule} (a : Accepted jobs rules) where
   stay state d n (number ∷ calls) =
       ap (λ (s : State). runOn jobs rules s calls) (after-stay (view a state number d) (n number)) ∙ stay state d n calls
 
-  stay-low : (state : State) → Reached jobs rules state → belowFloor (floor rules) (state .times) ≡ true → (calls : List ℕ) → runOn jobs rules state calls ≡ state
+  pub stay-low : (state : State) → Reached jobs rules state → belowFloor (floor rules) (state .times) ≡ true → (calls : List ℕ) → runOn jobs rules state calls ≡ state
   stay-low state d low calls = stay state d (λ number h above broken. clash low above) calls
 
-  stay-kept : (state : State) → Reached jobs rules state → AllSatisfied rules (state .times) → (calls : List ℕ) → runOn jobs rules state calls ≡ state
+  pub stay-kept : (state : State) → Reached jobs rules state → AllSatisfied rules (state .times) → (calls : List ℕ) → runOn jobs rules state calls ≡ state
   stay-kept state d sat calls =
       stay state d (λ number h above broken. clash (each-at (λ r. satisfied r (state .times) ≡ true) rules number h sat) broken) calls
 
   -- what a step does to the floor test
   module _ {state : State} (d : Reached jobs rules state) (number : ℕ) (h : number < length rules)
       (above : belowFloor (floor rules) (state .times) ≡ false) (broken : satisfied (ruleAt rules number) (state .times) ≡ false) where
-    stays-above : ltZ (leftSide (ruleAt rules number) (state .times)) (floor rules) ≡ false →
+    pub stays-above : ltZ (leftSide (ruleAt rules number) (state .times)) (floor rules) ≡ false →
         belowFloor (floor rules) (stepOn (ruleAt rules number) state .times) ≡ false
     unfolding stepOn
     stays-above e =
         high-test (floor rules) _
         (λ job. set-time (λ (t : ℤ). floor rules ≤ℤ t) (state .times) _ job _ (test-high (floor rules) (state .times) (floor-low a) above job) (λ q. lt-false _ _ e))
 
-    falls-below : ltZ (leftSide (ruleAt rules number) (state .times)) (floor rules) ≡ true →
+    pub falls-below : ltZ (leftSide (ruleAt rules number) (state .times)) (floor rules) ≡ true →
         belowFloor (floor rules) (stepOn (ruleAt rules number) state .times) ≡ true
     falls-below e =
         by-test-not _
@@ -103,23 +103,23 @@ drop-at (x ∷ rules) zero r rest e = let q = head-of e in (omega arith, q .0, q
 drop-at (x ∷ rules) (suc i) r rest e = let q = drop-at rules i r rest e in (omega (arith, q .0), q .1, q .2)
 
 -- what a pass over the last rules is, from a state that shows no fall
-record PassIs (jobs : ℕ) (rules rest : List Rule) (state : State) (calls : List ℕ) (w : Run) : Type 0 where
-  times-is : runOn jobs rules state calls .times ≡ w .times
-  steps-is : runOn jobs rules state calls .tally .steps ≡ w .steps
-  more : state .tally .steps ≤ w .steps
-  still : w .steps ≡ state .tally .steps → AllSatisfied rest (state .times) × (w .times ≡ state .times)
-  above : fallen (w .end) ≡ false → belowFloor (floor rules) (w .times) ≡ false
-  below : fallen (w .end) ≡ true → belowFloor (floor rules) (w .times) ≡ true
-  fell-at : (job : ℕ) → w .end ≡ fell job → (job < jobs) × (timeAt (w .times) job <ℤ floor rules)
+pub record PassIs (jobs : ℕ) (rules rest : List Rule) (state : State) (calls : List ℕ) (w : Run) : Type 0 where
+  pub times-is : runOn jobs rules state calls .times ≡ w .times
+  pub steps-is : runOn jobs rules state calls .tally .steps ≡ w .steps
+  pub more : state .tally .steps ≤ w .steps
+  pub still : w .steps ≡ state .tally .steps → AllSatisfied rest (state .times) × (w .times ≡ state .times)
+  pub above : fallen (w .end) ≡ false → belowFloor (floor rules) (w .times) ≡ false
+  pub below : fallen (w .end) ≡ true → belowFloor (floor rules) (w .times) ≡ true
+  pub fell-at : (job : ℕ) → w .end ≡ fell job → (job < jobs) × (timeAt (w .times) job <ℤ floor rules)
 
-fell-is : {i j : ℕ} → fell i ≡ fell j → i ≡ j
+pub fell-is : {i j : ℕ} → fell i ≡ fell j → i ≡ j
 fell-is e = cc
 
-not-fell : {A : Type 0} {j : ℕ} → unfinished ≡ fell j → A
+pub not-fell : {A : Type 0} {j : ℕ} → unfinished ≡ fell j → A
 not-fell e = absurd (let z : _≡_ {A = ℕ} 0 1 = cc in omega arith)
 
 module _ {jobs : ℕ} {rules : List Rule} (a : Accepted jobs rules) where
-  pass-is : (rest : List Rule) (i : ℕ) (state : State) → Reached jobs rules state → belowFloor (floor rules) (state .times) ≡ false → drop i rules ≡ rest →
+  pub pass-is : (rest : List Rule) (i : ℕ) (state : State) → Reached jobs rules state → belowFloor (floor rules) (state .times) ≡ false → drop i rules ≡ rest →
       PassIs jobs rules rest state (upFrom i (length rest)) (pass (floor rules) rest (state .times) (state .tally .steps))
   unfolding pass upFrom play endState fallen stepOn
   pass-is [] i state d above e =
@@ -203,11 +203,11 @@ pub record PassesAre (jobs : ℕ) (rules : List Rule) (state : State) (n : ℕ) 
   pub ends : passBound jobs rules ≤ n + state .tally .steps → w .end ≡ unfinished → ⊥
 
 -- three ways to stand
-ends-apart : {j : ℕ} → ((planned ≡ fell j) → ⊥) × ((planned ≡ unfinished) → ⊥) × ((fell j ≡ unfinished) → ⊥)
+pub ends-apart : {j : ℕ} → ((planned ≡ fell j) → ⊥) × ((planned ≡ unfinished) → ⊥) × ((fell j ≡ unfinished) → ⊥)
 ends-apart =
     ((λ e. let z : _≡_ {A = ℕ} 0 1 = cc in omega arith), (λ e. let z : _≡_ {A = ℕ} 0 1 = cc in omega arith), (λ e. let z : _≡_ {A = ℕ} 0 1 = cc in omega arith))
 
-fallen-end : (e : End) → fallen e ≡ true → (e ≡ planned → ⊥) × (e ≡ unfinished → ⊥)
+pub fallen-end : (e : End) → fallen e ≡ true → (e ≡ planned → ⊥) × (e ≡ unfinished → ⊥)
 unfolding fallen
 fallen-end planned q = clash q refl
 fallen-end (fell j) q = ((λ e. ends-apart .0 (sym e)), ends-apart .2)

@@ -21,13 +21,36 @@ use Rattle.maxatom.proofs.Clauses.{Clause, leftOf, totalOf}
 use Rattle.maxatom.proofs.Derivations.{Derivation, start, step, Setting, same-length, under-latest, few-steps, not-far, minutes-lost, floor-under}
 use Rattle.maxatom.proofs.Rules.{clauseOf, clausesOf, left-same, in-clauses, total-same, setting, zero-time}
 use Rattle.derivation.specs.declared.Tally.{Tally}
-use Rattle.derivation.specs.Refusals.{Reply, refused, answer, Check, reply, lent, check, timesChecks, ruleCheck}
-use Rattle.derivation.specs.Step.{State, initial, ruleAt, inRange, belowFloor, sumZ, fits, stepChecks, stepOn, Called, stepCall}
-use Rattle.derivation.proofs.Checks.{says, skips, skips-all, accepting, times-pass}
+use Rattle.derivation.specs.Refusals.{Reply, refused, answer, Check, reply, verdict, lent, timesChecks}
+use Rattle.derivation.specs.Step.{State, initial, ruleAt, inRange, belowFloor, sumZ, fits, ruleStepChecks, stepChecks, stepOn, Called, calledBy, stepCall}
+use Rattle.derivation.proofs.Checks.{says, skips, skips-all, refused-append, times-pass}
 
 abbrev pub Reached : ℕ → List Rule → State → Type 0
 Reached jobs rules state =
     Derivation (clausesOf rules) (floor rules) (replicate jobs (pos 0)) (state .times) (state .tally .steps) (state .tally .minutes)
+
+-- a call under checks, check by check
+module _ (c : Check) (checks : List Check) (before after : State) where
+  pub call-says : c .fails ≡ true → calledBy (c ∷ checks) before after ≡ record { said = refused (c .number) (c .place); after = before }
+  unfolding calledBy lent
+  call-says e = ap (λ (s : Reply (Unit {0})). record { said = s; after = lent s before after }) (says tt c checks e)
+
+  pub call-skips : c .fails ≡ false → calledBy (c ∷ checks) before after ≡ calledBy checks before after
+  unfolding calledBy
+  call-skips e = ap (λ (s : Reply (Unit {0})). record { said = s; after = lent s before after }) (skips tt c checks e)
+
+module _ (checks more : List Check) (before after : State) where
+  pub call-passes : Each (λ c. c .fails ≡ false) checks → calledBy (checks ++ more) before after ≡ calledBy more before after
+  unfolding calledBy
+  call-passes e = ap (λ (s : Reply (Unit {0})). record { said = s; after = lent s before after }) (skips-all tt checks more e)
+
+  pub call-refused : {number place : ℕ} → verdict checks ≡ refused number place → calledBy (checks ++ more) before after ≡ record { said = refused number place; after = before }
+  unfolding calledBy lent
+  call-refused e = ap (λ (s : Reply (Unit {0})). record { said = s; after = lent s before after }) (refused-append tt tt checks more e)
+
+pub call-done : (before after : State) → calledBy [] before after ≡ record { said = answer tt; after = after }
+unfolding calledBy lent reply
+call-done before after = refl
 
 thirds : (jobs : ℕ) (rules : List Rule) → Each (InBook jobs) rules → Each (λ (r : Rule). r .z < jobs) rules
 thirds jobs [] e = tt
@@ -116,14 +139,12 @@ module _ {jobs : ℕ} {rules : List Rule} (a : Accepted jobs rules) where
             ))
 
     -- what a call from here does
-    pub reply-is : (number : ℕ) → stepCall jobs rules state number .said ≡ reply
-        (ruleCheck (length rules) number
-        ∷ check (belowFloor (floor rules) (state .times)) 25 0
-        ∷ check (satisfied (ruleAt rules number) (state .times)) 26 0
-        ∷ []) tt
+    pub call-is : (number : ℕ) → stepCall jobs rules state number ≡ calledBy (ruleStepChecks rules state number) state (stepOn (ruleAt rules number) state)
     unfolding stepCall stepChecks
-    reply-is number =
-        skips-all tt (timesChecks jobs rules (state .times)) _ (times-pass (state .times) a size-is) ∙ skips tt _ _ (rw range-is) ∙ skips tt _ _ (rw fits-is)
+    call-is number =
+        call-passes (timesChecks jobs rules (state .times)) _ _ _ (times-pass (state .times) a size-is)
+        ∙ call-skips _ _ _ _ (rw range-is)
+        ∙ call-skips _ _ _ _ (rw fits-is)
 
   module _ (state : State) (number : ℕ) where
     -- the four things that a call does
@@ -136,25 +157,18 @@ module _ {jobs : ℕ} {rules : List Rule} (a : Accepted jobs rules) where
           View (record { said = answer tt; after = stepOn (ruleAt rules number) state })
 
     pub view : Reached jobs rules state → View (stepCall jobs rules state number)
-    unfolding stepCall lent
     view d = go (leb (length rules) number) (belowFloor (floor rules) (state .times)) (satisfied (ruleAt rules number) (state .times)) refl refl refl
       where
-        shaped : Reply (Unit {0}) → Called
-        shaped said = record { said = said; after = lent said state (stepOn (ruleAt rules number) state) }
+        next : State
+        next = stepOn (ruleAt rules number) state
 
-        low : Check
-        low = check (belowFloor (floor rules) (state .times)) 25 0
-
-        idle : Check
-        idle = check (satisfied (ruleAt rules number) (state .times)) 26 0
-
-        by : (said : Reply (Unit {0})) → reply (ruleCheck (length rules) number ∷ low ∷ idle ∷ []) tt ≡ said → View (shaped said) → View (stepCall jobs rules state number)
-        by said e v = subst View (sym (ap shaped (reply-is d number ∙ e))) v
+        by : (called : Called) → calledBy (ruleStepChecks rules state number) state next ≡ called → View called → View (stepCall jobs rules state number)
+        by called e v = subst View (sym (call-is d number ∙ e)) v
 
         go : (p q r : Bool) → leb (length rules) number ≡ p → belowFloor (floor rules) (state .times) ≡ q → satisfied (ruleAt rules number) (state .times) ≡ r →
             View (stepCall jobs rules state number)
-        go true q r e f g = by (refused 24 0) (says tt _ _ e) (no-rule (leb-true (length rules) number e))
-        go false true r e f g = by (refused 25 0) (skips tt _ _ e ∙ says tt _ _ f) (too-low (leb-false (length rules) number e) f)
-        go false false true e f g = by (refused 26 0) (skips tt _ _ e ∙ (skips tt _ _ f ∙ says tt _ _ g)) (kept (leb-false (length rules) number e) f g)
+        go true q r e f g = by _ (call-says _ _ _ _ e) (no-rule (leb-true (length rules) number e))
+        go false true r e f g = by _ (call-skips _ _ _ _ e ∙ call-says _ _ _ _ f) (too-low (leb-false (length rules) number e) f)
+        go false false true e f g = by _ (call-skips _ _ _ _ e ∙ (call-skips _ _ _ _ f ∙ call-says _ _ _ _ g)) (kept (leb-false (length rules) number e) f g)
         go false false false e f g =
-            by (answer tt) (skips tt _ _ e ∙ (skips tt _ _ f ∙ (skips tt _ _ g ∙ accepting [] tt tt))) (steps (leb-false (length rules) number e) f g)
+            by _ (call-skips _ _ _ _ e ∙ (call-skips _ _ _ _ f ∙ (call-skips _ _ _ _ g ∙ call-done _ _))) (steps (leb-false (length rules) number e) f g)

@@ -46,16 +46,24 @@ sumZ (t ∷ times) = t +ℤ sumZ times
 unfoldable pub fits : Tally → List ℤ → Bool
 fits tally times = eqZ (pos (tally .minutes)) (negℤ (sumZ times)) && leb (tally .steps) (tally .minutes)
 
--- the refusals of a hand step
-unfoldable pub stepChecks : ℕ → List Rule → State → ℕ → List Check
-stepChecks jobs rules state number =
-    timesChecks jobs rules (state .times) ++
-    (check (not (inRange (total rules) (state .times))) 22 0
-    ∷ check (not (fits (state .tally) (state .times))) 23 0
-    ∷ ruleCheck (length rules) number
+-- the refusals of a hand step for the rule it names
+abbrev pub ruleStepChecks : List Rule → State → ℕ → List Check
+ruleStepChecks rules state number =
+    ruleCheck (length rules) number
     ∷ check (belowFloor (floor rules) (state .times)) 25 0
     ∷ check (satisfied (ruleAt rules number) (state .times)) 26 0
-    ∷ [])
+    ∷ []
+
+-- for the board and the tally, and then the rule
+abbrev pub heldChecks : List Rule → State → ℕ → List Check
+heldChecks rules state number =
+    check (not (inRange (total rules) (state .times))) 22 0
+    ∷ check (not (fits (state .tally) (state .times))) 23 0
+    ∷ ruleStepChecks rules state number
+
+-- for the table first
+unfoldable pub stepChecks : ℕ → List Rule → State → ℕ → List Check
+stepChecks jobs rules state number = timesChecks jobs rules (state .times) ++ heldChecks rules state number
 
 -- sets z's time to the left side, and brings the tally up to date
 unfoldable pub stepOn : Rule → State → State
@@ -71,8 +79,10 @@ pub record Called : Type 0 where
   pub said : Reply (Unit {0})
   pub after : State
 
+-- a call under checks that would take one state to another
+unfoldable pub calledBy : List Check → State → State → Called
+calledBy checks before after = let said = verdict checks in record { said = said; after = lent said before after }
+
 -- hand step
 unfoldable pub stepCall : ℕ → List Rule → State → ℕ → Called
-stepCall jobs rules state number =
-    let said = verdict (stepChecks jobs rules state number) in
-    record { said = said; after = lent said state (stepOn (ruleAt rules number) state) }
+stepCall jobs rules state number = calledBy (stepChecks jobs rules state number) state (stepOn (ruleAt rules number) state)

@@ -69,18 +69,19 @@ unfolding sumZ
 down-up [] e = refl
 down-up (t ∷ times) e = up-zero (le-make {a = t +ℤ sumZ times} {b = pos 0} (omega (arith, add-parts t (sumZ times), up-zero (e .0), down-up times (e .1))))
 
-sum-head : (t : ℤ) (times : List ℤ) → t ≤ℤ pos 0 → NotAfterZero times → natAbs (sumZ (t ∷ times)) ≡ natAbs t + natAbs (sumZ times)
+pub sum-head : (t : ℤ) (times : List ℤ) → t ≤ℤ pos 0 → NotAfterZero times → natAbs (sumZ (t ∷ times)) ≡ natAbs t + natAbs (sumZ times)
 unfolding sumZ
 sum-head t times h e =
-    omega
-    (arith,
-    abs-parts t,
-    abs-parts (sumZ times),
-    abs-parts (t +ℤ sumZ times),
-    add-parts t (sumZ times),
-    up-zero h,
-    down-up times e,
-    up-zero (le-make {a = t +ℤ sumZ times} {b = pos 0} (omega (arith, add-parts t (sumZ times), up-zero h, down-up times e))))
+    omega (
+      arith,
+      abs-parts t,
+      abs-parts (sumZ times),
+      abs-parts (t +ℤ sumZ times),
+      add-parts t (sumZ times),
+      up-zero h,
+      down-up times e,
+      up-zero (le-make {a = t +ℤ sumZ times} {b = pos 0} (omega (arith, add-parts t (sumZ times), up-zero h, down-up times e))),
+    )
 
 drop-early : (times : List ℤ) (i : ℕ) → NotAfterZero times → NotAfterZero (drop i times)
 drop-early times zero e = e

@@ -4,17 +4,17 @@ use mathlib.Core.Bool.{true, false}
 use mathlib.Core.List.{List, [], _∷_}
 use Prim.Native.Nat.{ℕ, _+_, _-_, _<_, _≤_, min}
 use native.Mathlib.Omega.{arith}
-use lib.ListN.{length}
-use lib.IntN.{ℤ}
-use borrow.Author.Tests.{le-leb, lt-leb}
+use lib.ListN.{length, replicate}
+use lib.IntN.{ℤ, pos}
+use borrow.Author.Tests.{le-leb, lt-leb, le-ltb, lt-ltb, eq-eqb, ne-eqb}
 use Rattle.maxatom.specs.Rule.{satisfied, tight}
 use Rattle.maxatom.specs.Book.{Accepted, InBook}
 use Rattle.maxatom.specs.declared.Rule.{Rule}
 use Rattle.maxatom.proofs.Choose.{cond-yes, cond-no}
 use Rattle.derivation.specs.declared.Refusal.{Refusal}
-use Rattle.derivation.specs.Refusals.{refused, answer, verdict, timesChecks, ruleCheck}
-use Rattle.derivation.proofs.Checks.{says, accepting, answered-append, times-accepted}
-use Rattle.derivation.specs.Calls.{Kept, all, broken, firstViolated, tightCall}
+use Rattle.derivation.specs.Refusals.{Reply, refused, answer, lent, verdict, jobsCheck, sizeCheck, timesChecks, ruleCheck}
+use Rattle.derivation.proofs.Checks.{says, skips, accepting, answered-append, times-accepted}
+use Rattle.derivation.specs.Calls.{Kept, all, broken, firstViolated, tightCall, initialReply, initialTimes}
 use Rattle.derivation.proofs.AnyOrder.{each-at}
 use Rattle.table.specs.Columns.{ruleOf, rulesFrom, rulesOf, Columns}
 use Rattle.table.specs.Replies.{checkedReply}
@@ -94,3 +94,28 @@ module _ {xs ys zs : List ℕ} {ks : List ℤ} {count jobs : ℕ} {times : List 
       answered-append tt _ (timesChecks jobs (rulesOf xs ys zs ks count) times) _ (p .passed)
       ∙ accepting (ruleCheck (length (rulesOf xs ys zs ks count)) number ∷ []) _ (lt-leb (length (rulesOf xs ys zs ks count)) number (omega (arith, rows-length xs ys zs ks 0 count)), tt)
       ∙ ap (λ (r : Rule). answer (tight r times)) (rows-at xs ys zs ks count number h)
+
+-- the initial assignment, check by check: the reply, and the times after
+module _ (jobs : ℕ) (times : List ℤ) where
+  initial-refused : {number : ℕ} → initialReply jobs times ≡ refused number 0 → (refused number 0 ≡ initialReply jobs times) × (times ≡ initialTimes jobs times)
+  unfolding initialTimes lent
+  initial-refused e = (sym e, sym (ap (λ (said : Reply (Unit {0})). lent said times (replicate jobs (pos 0))) e))
+
+  pub initial-few : jobs < 1 → (refused 4 0 ≡ initialReply jobs times) × (times ≡ initialTimes jobs times)
+  unfolding initialReply
+  initial-few h = initial-refused (says tt (jobsCheck jobs) _ (rw (lt-ltb jobs 1 h)))
+
+  pub initial-many : 1 ≤ jobs → 256 < jobs → (refused 4 0 ≡ initialReply jobs times) × (times ≡ initialTimes jobs times)
+  unfolding initialReply
+  initial-many p h = initial-refused (says tt (jobsCheck jobs) _ (rw (le-ltb jobs 1 p, lt-ltb 256 jobs h)))
+
+  pub initial-size : 1 ≤ jobs → jobs ≤ 256 → (length times ≡ jobs → ⊥) → (refused 21 0 ≡ initialReply jobs times) × (times ≡ initialTimes jobs times)
+  unfolding initialReply
+  initial-size p q h =
+      initial-refused (skips tt (jobsCheck jobs) _ (rw (le-ltb jobs 1 p, le-ltb 256 jobs q)) ∙ says tt (sizeCheck jobs times) _ (rw (ne-eqb (length times) jobs h)))
+
+  pub initial-done : 1 ≤ jobs → jobs ≤ 256 → length times ≡ jobs → (answer tt ≡ initialReply jobs times) × (replicate jobs (pos 0) ≡ initialTimes jobs times)
+  unfolding initialReply initialTimes lent
+  initial-done p q h =
+      let e : initialReply jobs times ≡ answer tt = skips tt (jobsCheck jobs) _ (rw (le-ltb jobs 1 p, le-ltb 256 jobs q)) ∙ accepting _ tt (rw (eq-eqb (length times) jobs h), tt) in
+      (sym e, sym (ap (λ (said : Reply (Unit {0})). lent said times (replicate jobs (pos 0))) e))

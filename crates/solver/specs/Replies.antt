@@ -1,9 +1,28 @@
 -- What the calls take and answer, as document 01 puts it.
-use mathlib.Core.Bool.{Bool, true, false}
-use Prim.Native.Nat.{ℕ, _<_}
+use mathlib.Core.Bool.{Bool, true, false, cond}
+use mathlib.Core.List.{List}
+use Prim.Native.Nat.{ℕ, _+_, _*_, _<_, _≤_}
+use lib.IntN.{ℤ}
+use lib.Signed.{_<ℤ_}
+use mir.Syntax.{w32}
+use mir.Val.{SFits}
+use lib.ListN.{length}
+use mathlib.Core.Path.{_≡_}
+use Rattle.maxatom.specs.Rule.{timeAt, leftSide}
+use Rattle.maxatom.specs.Book.{Accepted, Satisfiable, Plan, total, floor}
 use Rattle.maxatom.specs.declared.Rule.{Rule}
 use Rattle.derivation.specs.Refusals.{Reply, refused, answer}
-use Rattle.derivation.specs.Calls.{Kept, all, broken}
+use Rattle.derivation.specs.Run.{Run, planned, fell, unfinished}
+use Rattle.derivation.specs.Demands.{finally}
+use Rattle.derivation.specs.Calls.{Kept, all, broken, Answer, answerOf}
+use Rattle.derivation.specs.Step.{State, ruleAt, inRange, belowFloor, fits, ruleStepChecks, heldChecks, stepOn, Called, calledBy}
+use Rattle.derivation.specs.declared.Tally.{Tally}
+use Rattle.solver.specs.declared.stepping.Stepped.{Stepped}
+use Rattle.solver.specs.declared.stepping.Stepped.the-variants as Step
+use Rattle.solver.specs.declared.stepping.StepOut.{StepOut}
+use Rattle.solver.specs.declared.running.PassOut.{PassOut}
+use Rattle.solver.specs.declared.running.Solved.{Solved}
+use Rattle.solver.specs.declared.running.Solved.the-variants as Solve
 use Rattle.solver.specs.declared.rule.FirstViolated.{FirstViolated}
 use Rattle.solver.specs.declared.rule.FirstViolated.the-variants as Violated
 use Rattle.solver.specs.declared.rule.Tightness.{Tightness}
@@ -26,3 +45,65 @@ unfoldable pub tightReply : Tightness → Reply Bool
 tightReply Tight.Tight = answer true
 tightReply Tight.Slack = answer false
 tightReply (Tight.Refused r) = refused (r .number) (r .place)
+
+-- a rule's left side is a 32-bit time below z's
+pub record Lowerable (r : Rule) (times : List ℤ) : Type 0 where
+  pub fits : SFits w32 (leftSide r times)
+  pub below : leftSide r times <ℤ timeAt times (r .z)
+
+-- hand step
+unfoldable pub steppedReply : Stepped → Reply (Unit {0})
+steppedReply Step.Done = answer tt
+steppedReply (Step.Refused r) = refused (r .number) (r .place)
+
+abbrev pub stateOf : List ℤ → Tally → State
+stateOf times tally = record { times = times; tally = tally }
+
+-- a hand step's reply and what it leaves, as one value
+abbrev pub calledOf : StepOut → List ℤ → Called
+calledOf out times = record { said = steppedReply (out .said); after = stateOf times (out .tally) }
+
+abbrev pub refusedOut : ℕ → Tally → StepOut
+refusedOut number tally = record { said = Step.Refused (record { number = number; place = 0 }); tally = tally }
+
+-- a hand step whose earlier checks have passed
+abbrev pub ruleStep : List Rule → State → ℕ → Called
+ruleStep rules state number = calledBy (ruleStepChecks rules state number) state (stepOn (ruleAt rules number) state)
+
+abbrev pub heldStep : List Rule → State → ℕ → Called
+heldStep rules state number = calledBy (heldChecks rules state number) state (stepOn (ruleAt rules number) state)
+
+-- an accepted book with a board and a tally that are as they should be
+pub record Held (rules : List Rule) (k : ℕ) (state : State) : Type 0 where
+  pub accepted : Accepted (length (state .times)) rules
+  pub offsets : k ≡ total rules
+  pub range : inRange (total rules) (state .times) ≡ true
+  pub tally : fits (state .tally) (state .times) ≡ true
+
+-- a pass's outcome, with the times that it left
+abbrev pub runOf : PassOut → List ℤ → Run
+runOf out times = record { times = times; steps = out .steps; end = cond (out .fell) (fell (out .job)) unfinished }
+
+-- times that some hand steps, that many, leave, with no time below the floor
+pub record Running (jobs : ℕ) (rules : List Rule) (times : List ℤ) (steps : ℕ) : Type 0 where
+  pub accepted : Accepted jobs rules
+  pub calls : List ℕ
+  pub same-times : finally jobs rules calls .times ≡ times
+  pub same-steps : finally jobs rules calls .tally .steps ≡ steps
+  pub above : belowFloor (floor rules) times ≡ false
+
+-- bench run
+unfoldable pub solvedReply : Solved → Reply Answer
+solvedReply (Solve.Plan steps) = answer (record { steps = steps; end = planned })
+solvedReply (Solve.None steps job) = answer (record { steps = steps; end = fell job })
+solvedReply (Solve.Refused r) = refused (r .number) (r .place)
+
+-- a run's answer, and the times that it left
+pub record SolvedAs (run : Run) (r : Solved) (times : List ℤ) : Type 0 where
+  pub said : solvedReply r ≡ answer (answerOf run)
+  pub left : times ≡ run .times
+
+-- what plan and none mean (demand 2): the times are then the plan, and no choice of times keeps every rule
+pub record Meaning (jobs : ℕ) (rules : List Rule) (r : Solved) (times : List ℤ) : Type 0 where
+  pub plan : (steps : ℕ) → r ≡ Solve.Plan steps → Plan jobs rules times × (steps ≤ jobs * total rules)
+  pub none : (steps job : ℕ) → r ≡ Solve.None steps job → (Satisfiable jobs rules → ⊥) × (steps ≤ jobs * total rules + 1)

@@ -7,11 +7,13 @@ ghost use Rattle.maxatom.specs.Book.{NotAfterZero};
 ghost use Rattle.derivation.specs.Step.{inRange, belowFloor, sumZ, fits};
 ghost use Rattle.derivation.specs.Calls.{initialReply, initialTimes};
 ghost use Rattle.table.specs.Replies.{checkedReply};
+use derivation::Refusal;
+use derivation::Tally;
+use table::Checked;
+use table::floor;
+use table::size_of;
 
-use derivation::{Refusal, Tally};
-use table::{floor, size_of, Checked};
-
-fn clear(times: &mut [i32])
+pub fn clear(times: &mut [i32])
     ensures { λ r. ⌜ now (times .exit) ≡ replicate (length (now (times .entry))) (pos 0) ⌝ }
 {
     let mut i = 0;

@@ -1,5 +1,15 @@
 mod board;
 mod rule;
+mod running;
+mod stepping;
 
 pub use board::initial;
-pub use rule::{first_violated, is_tight, FirstViolated, Tightness};
+pub use rule::FirstViolated;
+pub use rule::Tightness;
+pub use rule::first_violated;
+pub use rule::is_tight;
+pub use running::Solved;
+pub use running::solve;
+pub use stepping::StepOut;
+pub use stepping::Stepped;
+pub use stepping::step;

@@ -9,10 +9,11 @@ ghost use Rattle.derivation.specs.Refusals.{answer};
 ghost use Rattle.derivation.specs.Calls.{firstViolated, keptCall, tightCall};
 ghost use Rattle.table.specs.Columns.{rulesOf, Columns};
 ghost use Rattle.solver.specs.Replies.{Named, keptReply, tightReply};
-
 use derivation::Refusal;
 use maxatom::Rule;
-use table::{check_times, rule_at, Checked};
+use table::Checked;
+use table::check_times;
+use table::rule_at;
 
 fn larger(a: i32, b: i32) -> i32
     ensures { λ r. ⌜ r ≡ maxZ a b ⌝ }

@@ -16,12 +16,13 @@ returns c =
     let s = m .before .before .before .before .before in
     let fx : SFits w32 (timeAt (now (s .args .times)) (s .args .r .x)) = sfits-of (m .before .before .larger-arg .given) in
     let fy : SFits w32 (timeAt (now (s .args .times)) (s .args .r .y)) = sfits-of (m .before .larger-arg2 .given) in
-    rw
-    (toZ-ofZ {w = w64} (sfits-of (c .plus .ok)),
-    c .plus .ensures,
-    toZ-ofZ {w = w32} (sfits-of (m .larger .ok)),
-    rw (toZ-ofZ fx, toZ-ofZ fy) at (m .larger .ensures),
-    told (c .before .struct-told .given .1 .1 .1 .0 .1))
+    rw (
+      toZ-ofZ {w = w64} (sfits-of (c .plus .ok)),
+      c .plus .ensures,
+      toZ-ofZ {w = w32} (sfits-of (m .larger .ok)),
+      rw (toZ-ofZ fx, toZ-ofZ fy) at (m .larger .ensures),
+      told (c .before .struct-told .given .1 .1 .1 .0 .1),
+    )
 
 pub left-side-spec : {M : Type 1} → statement M
 left-side-spec =

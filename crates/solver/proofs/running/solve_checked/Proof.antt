@@ -1,0 +1,81 @@
+use borrow.Author.Needs.{needs, sfits-of}
+use mathlib.Core.Path.{_≡_, sym, ap, _∙_}
+use mathlib.Core.List.{List}
+use Prim.Native.Nat.{ℕ, _-_}
+use native.Mathlib.Omega.{arith}
+use lib.ListN.{length, length-replicate}
+use lib.IntN.{ℤ, pos}
+use denote.Ref.{now}
+use mir.Syntax.{w32}
+use mir.Val.{toZ, ofZ}
+use mir.Facts.{toZ-ofZ}
+use Rattle.maxatom.specs.Book.{floor}
+use Rattle.maxatom.specs.declared.Rule.{Rule}
+use Rattle.derivation.specs.Run.{passBound, pass}
+use Rattle.table.specs.Columns.{rulesOf}
+use Rattle.solver.specs.Replies.{runOf}
+use Rattle.solver.proofs.Steps.{small-of, total-bound}
+use Rattle.solver.proofs.Runs.{size-of, Looping, looping-none, solved-fell, solved-still, solved-next, solved-less}
+use Rattle.solver.proofs.running.solve_checked.Statement.{statement}
+use Rattle.solver.proofs.running.solve_checked.Tie as tie
+
+abbrev Inv-loop : tie.InvT-loop
+Inv-loop xs ys zs ks count times₀ f s₀ times s = Looping (length times₀) (rulesOf xs ys zs ks count) times s
+
+abbrev μ-loop : tie.MeasureT-loop
+μ-loop xs ys zs ks count times₀ f s₀ times s = passBound (length times₀) (rulesOf xs ys zs ks count) - s
+
+abbrev start : tie.After-floor Inv-loop μ-loop → tie.Start Inv-loop μ-loop
+start c = c .before .before .before .before .before
+
+abbrev rules : tie.Start Inv-loop μ-loop → List Rule
+rules s = rulesOf (now (s .args .xs)) (now (s .args .ys)) (now (s .args .zs)) (now (s .args .ks)) (s .args .count)
+
+floor-is : (c : tie.After-floor Inv-loop μ-loop) → toZ w32 (ofZ w32 (c .floor .result)) ≡ floor (rules (start c))
+floor-is c = toZ-ofZ {w = w32} (sfits-of (c .floor .ok)) ∙ rw (c .before .total .ensures) at (c .floor .ensures)
+
+abbrev floor-at : tie.At-loop Inv-loop μ-loop → tie.After-floor Inv-loop μ-loop
+floor-at l = l .before .before .before .before
+
+pass-requires : tie.Need-pass-requires Inv-loop μ-loop
+pass-requires c κs =
+    let l = c .before in
+    let p = l .loop .inv .running in
+    (start (floor-at l) .pre .0, (rw (size-of p) p, floor-is (floor-at l)))
+
+-- what the pass made, and that the times are as many as they were
+said : (c : tie.After-pass Inv-loop μ-loop) →
+    let l = c .before .before in
+    runOf (c .pass .result) (c .pass .last .1 .1 .1 .1 .1 .1 .0) ≡ pass (floor (rules (start (floor-at l)))) (rules (start (floor-at l))) (l .loop .times) (l .loop .s)
+said c = rw (floor-is (floor-at (c .before .before))) at (c .pass .ensures)
+
+cleared : (l : tie.At-loop Inv-loop μ-loop) → length (l .before .before .clear .last .0) ≡ length (now (start (floor-at l) .args .times))
+cleared l = ap length (l .before .before .clear .ensures) ∙ length-replicate _ (pos 0)
+
+size : (c : tie.After-pass Inv-loop μ-loop) → length (c .pass .last .1 .1 .1 .1 .1 .1 .0) ≡ length (now (start (floor-at (c .before .before)) .args .times))
+size c = c .pass .kept .1 .1 .1 .1 .1 .1 .0 ∙ (size-of (c .before .before .loop .inv .running) ∙ cleared (c .before .before))
+
+pub solve-checked-spec : {M : Type 1} → statement M
+solve-checked-spec =
+    tie.close
+    (tie.spec
+    Inv-loop
+    μ-loop
+    (λ c κs. let p = c .before .before .before .pre in (p .0, small-of (p .1)))
+    (λ c κs. omega (arith, c .total .ensures, total-bound (c .before .before .before .before .pre .1)))
+    (λ c κs. search needs)
+    (λ c. rw (c .before .clear .ensures, length-replicate) (looping-none (start (c .before .before .before) .pre .1)))
+    pass-requires
+    (λ c. size (c .before .before))
+    (λ c. let d = c .before .before in
+    rw (cleared (d .before .before)) at (solved-fell (d .before .before .loop .inv) _ _ (said d) (c .if1 .taken)))
+    (λ c. size (c .before .before .before))
+    (λ c. let e = c .before in
+    let d = e .before .before in
+    rw (cleared (d .before .before)) at (solved-still (d .before .before .loop .inv) _ _ (said d) (e .if1 .left) (c .if2 .taken)))
+    (λ c. let e = c .before in
+    let d = e .before .before in
+    solved-less (d .before .before .loop .inv) _ _ (said d) (e .if1 .left) (c .if2 .left))
+    (λ c. let e = c .before in
+    let d = e .before .before in
+    solved-next (d .before .before .loop .inv) _ _ (said d) (e .if1 .left) (c .if2 .left)))
