@@ -42,8 +42,8 @@ pub fn is_satisfied(r: Rule, times: &[i32]) -> bool
     requires { ⌜ Named r (length (now times)) ⌝ }
     ensures { λ b. ⌜ b ≡ satisfied r (now (times .entry)) ⌝ }
 {
-    let z = r.z as usize;
-    let t = times[z] as i64;
+    let third = r.z as usize;
+    let t = times[third] as i64;
     t <= left_side(r, times)
 }
 

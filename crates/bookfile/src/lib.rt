@@ -1,0 +1,1 @@
+// The book file: the reader, a rule's record, the plan writer.
