@@ -1,6 +1,6 @@
 -- Passes and the run, rule by rule and pass by pass. Assumes nothing.
 use mathlib.Core.Path.{_≡_, refl, sym, ap, subst, _∙_}
-use mathlib.Core.Bool.{Bool, true, false, cond, true≢false}
+use mathlib.Core.Bool.{Bool, true, false, cond}
 use mathlib.Core.List.{List, [], _∷_, _++_}
 use Prim.Native.Nat.{ℕ, zero, suc, _+_, _-_, _*_, _<_, _≤_, _^_}
 use native.Mathlib.Nat.{mul-le-mul}
@@ -32,7 +32,7 @@ use Rattle.solver.specs.declared.running.Solved.{Solved}
 use Rattle.derivation.specs.declared.Refusal.{Refusal}
 use Rattle.derivation.specs.Refusals.{Reply, refused, answer, accepts, lent, verdict, timesChecks}
 use Rattle.derivation.specs.Calls.{Answer, answerOf, runReply, runTimes}
-use Rattle.derivation.proofs.Checks.{refused-same, answered-same}
+use Rattle.derivation.proofs.Checks.{accepting, passed, refused-same, answered-same, times-accepted}
 use Rattle.derivation.proofs.Exact.{demand-2, run-facts}
 use Rattle.solver.proofs.Laws.{named, in-book}
 use Rattle.solver.proofs.Steps.{total-bound, lowerable}
@@ -236,35 +236,41 @@ module _ (jobs : ℕ) (rules : List Rule) (buffer : List ℤ) where
   lent-by e = ap (λ (said : Reply Answer). lent said buffer (solve jobs rules .times)) e
 
   pub run-refused : (q : Refusal) → verdict (timesChecks jobs rules buffer) ≡ refused (q .number) (q .place) →
-      (solvedReply (Refused q) ≡ runReply jobs rules buffer) × (buffer ≡ runTimes jobs rules buffer) × Meaning jobs rules (Refused q) buffer
-  unfolding runReply solvedReply lent accepts
+      (solvedReply (Refused q) ≡ runReply jobs rules buffer) × (buffer ≡ runTimes jobs rules buffer)
+  unfolding runReply solvedReply lent
   run-refused q e =
       let r = refused-same tt (answerOf (solve jobs rules)) (timesChecks jobs rules buffer) e in
-      let apart : (v : Solved) → accepts (solvedReply v) ≡ true → Refused q ≡ v → ⊥ = λ v y x. true≢false (sym y ∙ ap (λ (z : Solved). accepts (solvedReply z)) (sym x)) in
-      (sym r, sym (lent-by r), record { plan = λ n x. absurd (apart (Plan n) refl x); none = λ n job x. absurd (apart (None n job) refl x) })
+      (sym r, sym (lent-by r))
 
-  -- an answer's steps and end are the run's
+  pub run-answered : verdict (timesChecks jobs rules buffer) ≡ answer tt → (r : Solved) (t : List ℤ) → SolvedAs (solve jobs rules) r t →
+      (solvedReply r ≡ runReply jobs rules buffer) × (t ≡ runTimes jobs rules buffer)
+  unfolding runReply lent
+  run-answered e r t s =
+      let q = answered-same tt (answerOf (solve jobs rules)) (timesChecks jobs rules buffer) e in
+      (s .said ∙ sym q, s .left ∙ sym (lent-by q))
+
   same-answer : {a b : Answer} → answer a ≡ answer b → a ≡ b
   same-answer e = cc
 
-  pub run-answered : Accepted jobs rules → verdict (timesChecks jobs rules buffer) ≡ answer tt → (r : Solved) (t : List ℤ) → SolvedAs (solve jobs rules) r t →
-      (solvedReply r ≡ runReply jobs rules buffer) × (t ≡ runTimes jobs rules buffer) × Meaning jobs rules r t
-  unfolding runReply lent solvedReply
-  run-answered a e r t s =
-      let q = answered-same tt (answerOf (solve jobs rules)) (timesChecks jobs rules buffer) e in
-      let d = demand-2 jobs rules a in
-      let f = run-facts a in
-      let same : (v : Solved) (w : Answer) → solvedReply v ≡ answer w → r ≡ v → w ≡ answerOf (solve jobs rules) = λ v w y x. same-answer (sym y ∙ (ap solvedReply (sym x) ∙ s .said)) in (
-        s .said ∙ sym q,
-        s .left ∙ sym (lent-by q),
-        record {
-          plan = λ n x.
-              let w = same (Plan n) _ refl x in
-              let end : solve jobs rules .end ≡ planned = sym (ap (λ (v : Answer). v .end) w) in
-              (rw (s .left) (d .plan-is end), rw (ap (λ (v : Answer). v .steps) w) (f .plan-steps end));
-          none = λ n job x.
-              let w = same (None n job) _ refl x in
-              let end : solve jobs rules .end ≡ fell job = sym (ap (λ (v : Answer). v .end) w) in
-              (d .none-iff .0 (job, end), rw (ap (λ (v : Answer). v .steps) w) (f .none-steps job end));
-        },
-      )
+  -- an answer is the run's, of an accepted book, and the times are those that the run left
+  answered : (w : Answer) → runReply jobs rules buffer ≡ answer w →
+      Accepted jobs rules × (answerOf (solve jobs rules) ≡ w) × (runTimes jobs rules buffer ≡ solve jobs rules .times)
+  unfolding runReply accepts lent
+  answered w e =
+      let whole = accepting (timesChecks jobs rules buffer) (answerOf (solve jobs rules)) (passed (timesChecks jobs rules buffer) (answerOf (solve jobs rules)) (ap accepts e)) in
+      (times-accepted (answerOf (solve jobs rules)) jobs rules buffer whole .0, same-answer (sym whole ∙ e), lent-by whole)
+
+  -- so the equations say what plan and none mean
+  pub means : (r : Solved) (t : List ℤ) → solvedReply r ≡ runReply jobs rules buffer → t ≡ runTimes jobs rules buffer → Meaning jobs rules r t
+  unfolding solvedReply
+  means r t said left =
+      record {
+        plan = λ n x.
+            let (a, w, q) = answered _ (sym said ∙ ap solvedReply x) in
+            let end : solve jobs rules .end ≡ planned = ap (λ (v : Answer). v .end) w in
+            (rw (left, q) (demand-2 jobs rules a .plan-is end), rw (ap (λ (v : Answer). v .steps) w) at (run-facts a .plan-steps end));
+        none = λ n job x.
+            let (a, w, q) = answered _ (sym said ∙ ap solvedReply x) in
+            let end : solve jobs rules .end ≡ fell job = ap (λ (v : Answer). v .end) w in
+            (demand-2 jobs rules a .none-iff .0 (job, end), rw (ap (λ (v : Answer). v .steps) w) at (run-facts a .none-steps job end));
+      }

@@ -3,7 +3,7 @@ use mathlib.Core.Path.{_≡_}
 use denote.Ref.{now}
 use Rattle.table.specs.declared.Checked.the-variants.{Accepted}
 use Rattle.solver.proofs.Laws.{Ready, ready, refused-by}
-use Rattle.solver.proofs.Runs.{run-refused, run-answered}
+use Rattle.solver.proofs.Runs.{run-refused, run-answered, means}
 use Rattle.solver.proofs.running.solve.Statement.{statement}
 use Rattle.solver.proofs.running.solve.Tie as tie
 
@@ -23,9 +23,9 @@ solve-spec =
     (λ c κs. let p = passed (c .before .before .before) (c .before .enum-told .given .1) in (p .columns, rw (p .size) (p .accepted)))
     (λ c. search needs)
     (λ c. let q = run-refused _ _ _ (c .before .r .given .0 .0) (refused-by _ _ _ _ _ _ _ _ (c .before .before .before .check-times .ensures) _ (c .before .r .given .1)) in
-    (q .0, (q .1, q .2)))
+    (q .0, (q .1, means _ _ _ _ _ (q .0) (q .1))))
     (λ c. search needs)
     (λ c. let s = c .before in
     let p = passed (s .before .before .before .before) (s .before .before .enum-told .given .1) in
-    let q = run-answered _ _ _ (p .accepted) (p .passed) _ _ (rw (p .size) at (s .solve-checked .ensures)) in
-    (q .0, (q .1, q .2))))
+    let q = run-answered _ _ _ (p .passed) _ _ (rw (p .size) at (s .solve-checked .ensures)) in
+    (q .0, (q .1, means _ _ _ _ _ (q .0) (q .1)))))
