@@ -1,0 +1,13 @@
+use borrow.Author.Needs.{needs}
+use Rattle.report.proofs.Texts.{written-then}
+use Rattle.report.proofs.text.put_field.Statement.{statement}
+use Rattle.report.proofs.text.put_field.Tie as tie
+
+pub put-field-spec : {M : Type 1} → statement M
+put-field-spec =
+    tie.close
+    (tie.spec
+    (λ c κs. search needs)
+    (λ c κs. search needs)
+    (λ c. search needs)
+    (λ c. written-then (c .before .before .before .before .before .before .put .ensures) (c .before .before .put-number .ensures)))
