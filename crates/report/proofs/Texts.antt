@@ -1,7 +1,7 @@
 -- Pieces of text, one after another, and numbers in decimal. Assumes nothing.
 use mathlib.Core.Path.{_≡_, refl, sym, ap, subst, _∙_}
 use mathlib.Core.Bool.{Bool, true, false, cond}
-use mathlib.Core.List.{List, [], _∷_, _++_}
+use mathlib.Core.List.{List, [], _∷_, _++_, append-assoc, append-nil}
 use Prim.Native.Nat.{ℕ, zero, suc, _+_, _*_, _/_, _%_, _^_, _<_, _≤_}
 use native.Mathlib.Nat.{pow-suc}
 use native.Mathlib.Omega.{arith}
@@ -109,3 +109,27 @@ module _ {word before : List ℕ} {at : ℕ} {after : List ℕ} {p i : ℕ} (c :
 
   pub copied-all : length word ≤ i → Written before at word after p
   copied-all h = rw (take-all i word h) at (c .written)
+
+-- part of a text is written, and the rest is to come
+pub record Listed (whole rest before : List ℕ) (at : ℕ) (after : List ℕ) (p : ℕ) : Type 0 where
+  pub bytes : List ℕ
+  pub written : Written before at bytes after p
+  pub joined : bytes ++ rest ≡ whole
+
+pub listed-none : (whole before : List ℕ) (at : ℕ) → Listed whole whole before at before at
+listed-none whole before at = record { bytes = []; written = written-none before at; joined = refl }
+
+module _ {whole before : List ℕ} {at : ℕ} {m : List ℕ} {p : ℕ} where
+  pub listed-next : {xs rest rest′ : List ℕ} {n : List ℕ} {q : ℕ} → rest ≡ xs ++ rest′ → Listed whole rest before at m p → Written m p xs n q → Listed whole rest′ before at n q
+  listed-next {xs = xs} {rest′ = rest′} e l w =
+      record {
+        bytes = l .bytes ++ xs;
+        written = written-then (l .written) w;
+        joined = append-assoc (l .bytes) xs rest′ ∙ (ap (λ (r : List ℕ). l .bytes ++ r) (sym e) ∙ l .joined);
+      }
+
+  pub listed-same : {rest rest′ : List ℕ} → rest ≡ rest′ → Listed whole rest before at m p → Listed whole rest′ before at m p
+  listed-same e l = record { bytes = l .bytes; written = l .written; joined = ap (λ (r : List ℕ). l .bytes ++ r) (sym e) ∙ l .joined }
+
+  pub listed-all : {rest : List ℕ} → rest ≡ [] → Listed whole rest before at m p → Written before at whole m p
+  listed-all e l = rw (sym (append-nil (l .bytes)) ∙ (ap (λ (r : List ℕ). l .bytes ++ r) (sym e) ∙ l .joined)) at (l .written)

@@ -1,1 +1,2 @@
+mod lines;
 mod text;

@@ -4,7 +4,6 @@ ghost use mathlib.Core.List.{[], _∷_};
 ghost use Prim.Native.Nat.{_+_, _<_, _≤_, _^_};
 ghost use lib.ListN.{length};
 ghost use Rattle.report.specs.Text.{Written, decimal, field, signedField};
-
 use table::size_of;
 
 fn put(out: &mut [u8], at: usize, b: u8) -> usize
@@ -41,6 +40,7 @@ fn put_number(out: &mut [u8], at: usize, n: u64) -> usize
 pub fn put_field(out: &mut [u8], at: usize, n: u64) -> usize
     requires { ⌜ at < 2 ^ 38 ⌝ }
     ensures { λ r. ⌜ Written (now (out .entry)) at (field n) (now (out .exit)) r ⌝ }
+    ensures { λ r. ⌜ r ≤ at + 24 ⌝ }
 {
     let p = put(out, at, 32);
     put_number(out, p, n)
@@ -50,6 +50,7 @@ pub fn put_field(out: &mut [u8], at: usize, n: u64) -> usize
 pub fn put_signed(out: &mut [u8], at: usize, t: i32) -> usize
     requires { ⌜ at < 2 ^ 38 ⌝ }
     ensures { λ r. ⌜ Written (now (out .entry)) at (signedField t) (now (out .exit)) r ⌝ }
+    ensures { λ r. ⌜ r ≤ at + 24 ⌝ }
 {
     if t < 0 {
         let p = put(out, at, 32);
@@ -63,6 +64,7 @@ pub fn put_signed(out: &mut [u8], at: usize, t: i32) -> usize
 pub fn put_word(out: &mut [u8], at: usize, word: &[u8]) -> usize
     requires { ⌜ (at < 2 ^ 38) × (length (now word) ≤ 8) ⌝ }
     ensures { λ r. ⌜ Written (now (out .entry)) at (now (word .entry)) (now (out .exit)) r ⌝ }
+    ensures { λ r. ⌜ r ≤ at + 8 ⌝ }
 {
     let mut i = 0;
     let mut p = at;

@@ -47,7 +47,8 @@ pub fn is_satisfied(r: Rule, times: &[i32]) -> bool
     t <= left_side(r, times)
 }
 
-fn is_equality(r: Rule, times: &[i32]) -> bool
+// A rule is tight.
+pub fn is_equality(r: Rule, times: &[i32]) -> bool
     requires { ⌜ Named r (length (now times)) ⌝ }
     ensures { λ b. ⌜ b ≡ tight r (now (times .entry)) ⌝ }
 {

@@ -1,4 +1,5 @@
 use borrow.Author.Needs.{needs}
+use native.Mathlib.Omega.{arith}
 use mathlib.Core.Path.{_≡_, ap, _∙_}
 use mathlib.Core.Bool.{true, false}
 use mathlib.Core.List.{_∷_}
@@ -8,24 +9,34 @@ use lib.Signed.{ltZ}
 use mir.Facts.{toZ-ofZ}
 use Rattle.maxatom.proofs.Choose.{clash}
 use Rattle.report.specs.Text.{Written, decimal, field, signedField}
-use Rattle.report.proofs.Texts.{written-then, below-text, above-text}
+use Rattle.report.proofs.Texts.{written-then, below-text, above-text, decimal-length}
 use Rattle.report.proofs.text.put_signed.Statement.{statement}
 use Rattle.report.proofs.text.put_signed.Tie as tie
 
 returns : tie.Need-returns
 returns c =
     let t = c .before .before .before .before .before .before .before .before .before .before .before .before .before in
-    let s = t .before .before in
-    rw (below-text (s .args .t) (rw (toZ-ofZ (s .fits .t)) at (t .if1 .taken)))
-    (written-then (c .before .before .before .before .before .before .before .before .before .before .before .put .ensures) (written-then (c .before .before .before .before .before .before .before .put2 .ensures)
-    (rw (rw (toZ-ofZ (s .fits .t)) at (c .before .before .before .size-of .ensures)) at (c .before .before .put-number .ensures))))
+    let s = t .before .before in (
+      rw (below-text (s .args .t) (rw (toZ-ofZ (s .fits .t)) at (t .if1 .taken)))
+          (written-then (c .before .before .before .before .before .before .before .before .before .before .before .put .ensures) (written-then (c .before .before .before .before .before .before .before .put2 .ensures)
+          (rw (rw (toZ-ofZ (s .fits .t)) at (c .before .before .before .size-of .ensures)) at (c .before .before .put-number .ensures)))),
+      omega (
+        arith,
+        c .before .before .before .before .before .before .before .before .before .before .before .put .ensures .to,
+        c .before .before .before .before .before .before .before .put2 .ensures .to,
+        c .before .before .put-number .ensures .to,
+        decimal-length (c .before .before .before .size-of .result) (omega arith),
+      ),
+    )
 
 returns-2 : tie.Need-returns-2
 returns-2 c =
     let t = c .before .before .before .before .before in
-    let s = t .before .before in
-    rw (above-text (s .args .t) (rw (toZ-ofZ (s .fits .t)) at (t .if1 .left)))
-    (rw (rw (toZ-ofZ (s .fits .t)) at (c .before .before .before .size-of2 .ensures)) at (c .before .before .put-field .ensures))
+    let s = t .before .before in (
+      rw (above-text (s .args .t) (rw (toZ-ofZ (s .fits .t)) at (t .if1 .left)))
+          (rw (rw (toZ-ofZ (s .fits .t)) at (c .before .before .before .size-of2 .ensures)) at (c .before .before .put-field .ensures .0)),
+      c .before .before .put-field .ensures .1,
+    )
 
 pub put-signed-spec : {M : Type 1} → statement M
 put-signed-spec =

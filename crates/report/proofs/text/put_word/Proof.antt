@@ -28,4 +28,5 @@ put-word-spec =
     (λ c. search needs)
     (λ c. copied-next (c .before .before .before .before .before .before .loop .inv) (omega arith) (c .before .before .put .ensures))
     (λ c. written-length (copied-all (c .before .loop .inv) (c .loop-test .left)))
-    (λ c. copied-all (c .before .loop .inv) (c .loop-test .left)))
+    (λ c. let i = c .before .loop .inv in
+    (copied-all i (c .loop-test .left), omega (arith, i .next, i .low))))
