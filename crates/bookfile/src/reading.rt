@@ -1,0 +1,111 @@
+// The reader.
+ghost use mathlib.Core.Path.{_≡_};
+ghost use Prim.Native.Nat.{ℕ, _+_, _<_, _≤_, min};
+ghost use lib.ListN.{length};
+ghost use Rattle.bookfile.specs.Numbers.{word};
+ghost use Rattle.bookfile.specs.Reading.{HR, sizeOf, sizeAt, ruleAt, offsetAt, ruleReply};
+ghost use Rattle.bookfile.specs.Replies.{markFault, itemReply};
+use crate::bytes::long;
+use crate::bytes::signed16;
+use crate::bytes::signed32;
+use crate::bytes::word;
+use derivation::Refusal;
+use maxatom::Rule;
+use table::fault;
+
+// The job count and the rule count of a book.
+pub struct Counts {
+    pub jobs: usize,
+    pub rules: usize,
+}
+
+// What reading a file says.
+pub enum Read {
+    Book(Counts),
+    Refused(Refusal),
+}
+
+// What reading one record says: its rule, or the number of its refusal.
+pub enum Item {
+    Taken(Rule),
+    Refused(u8),
+}
+
+// 2 for an unknown mark, else 3 for BK, else 5 for a rule past the 1,024th, else 0.
+fn mark_fault(mark: u16, count: usize) -> u8
+    ensures { λ r. ⌜ r ≡ markFault mark count ⌝ }
+{
+    if mark == 19266 {
+        return 3;
+    }
+    if mark != 21842 {
+        if mark != 21064 {
+            return 2;
+        }
+    }
+    if 1024 <= count { 5 } else { 0 }
+}
+
+// Bytes in all of a rule's record.
+fn size_of(mark: u16) -> usize
+    ensures { λ r. ⌜ r ≡ sizeOf mark ⌝ }
+{
+    if mark == 21064 { 10 } else { 12 }
+}
+
+fn size_at(file: &[u8], at: usize) -> usize
+    requires { ⌜ at + 2 ≤ length (now file) ⌝ }
+    ensures { λ r. ⌜ r ≡ sizeAt (now (file .entry)) at ⌝ }
+{
+    size_of(word(file, at))
+}
+
+// The offset of the record that begins at a byte; with hours it is 60 times as much.
+fn offset_at(file: &[u8], at: usize) -> i32
+    requires { ⌜ at + sizeAt (now file) at ≤ length (now file) ⌝ }
+    ensures { λ r. ⌜ r ≡ offsetAt (now (file .entry)) at ⌝ }
+{
+    if word(file, at) == 21064 {
+        60 * signed16(word(file, at + 8))
+    } else {
+        signed32(long(file, at + 8))
+    }
+}
+
+// The rule of the record that begins at a byte.
+fn rule_at(file: &[u8], at: usize) -> Rule
+    requires { ⌜ at + sizeAt (now file) at ≤ length (now file) ⌝ }
+    ensures { λ r. ⌜ r ≡ ruleAt (now (file .entry)) at ⌝ }
+{
+    let k = offset_at(file, at);
+    Rule {
+        x: word(file, at + 2),
+        y: word(file, at + 4),
+        z: word(file, at + 6),
+        k: k,
+    }
+}
+
+// The record that begins at a byte, count rules already read: its checks in order.
+fn read_record(file: &[u8], jobs: usize, count: usize, at: usize) -> Item
+    requires { ⌜ at ≤ length (now file) ⌝ }
+    ensures { λ r. ⌜ itemReply at r ≡ ruleReply jobs (now (file .entry)) count at ⌝ }
+{
+    if file.len() - at < 2 {
+        return Item::Refused(1);
+    }
+    let mark = word(file, at);
+    let f = mark_fault(mark, count);
+    if f != 0 {
+        return Item::Refused(f);
+    }
+    if file.len() - at < size_of(mark) {
+        return Item::Refused(1);
+    }
+    let r = rule_at(file, at);
+    let g = fault(jobs, r);
+    if g != 0 {
+        return Item::Refused(g);
+    }
+    Item::Taken(r)
+}
