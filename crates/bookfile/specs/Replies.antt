@@ -15,8 +15,11 @@ use Rattle.bookfile.specs.declared.reading.Item.{Item}
 use Rattle.bookfile.specs.declared.reading.Item.the-variants as Item
 
 -- the number said of a mark, 0 where none is; `count` rules already read
+unfoldable pub fullFault : ℕ → ℕ
+fullFault count = cond (leb 1024 count) 5 0
+
 unfoldable pub markFault : ℕ → ℕ → ℕ
-markFault mark count = cond (not (known mark)) 2 (cond (eqb mark BK) 3 (cond (leb 1024 count) 5 0))
+markFault mark count = cond (not (known mark)) 2 (cond (eqb mark BK) 3 (fullFault count))
 
 -- one record of a rule, at its byte
 unfoldable pub itemReply : ℕ → Item → Reply Rule

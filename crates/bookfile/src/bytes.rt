@@ -2,6 +2,7 @@
 ghost use mathlib.Core.Path.{_≡_};
 ghost use Prim.Native.Nat.{ℕ, _+_, _<_, _≤_};
 ghost use lib.ListN.{length};
+ghost use lib.IntN.{natAbs};
 ghost use Rattle.bookfile.specs.Numbers.{word, long, signed16, signed32};
 
 fn wide(b: u8) -> u16
@@ -34,7 +35,7 @@ pub fn long(bytes: &[u8], at: usize) -> u32
 
 // 16 bits as a number with sign.
 pub fn signed16(n: u16) -> i32
-    ensures { λ r. ⌜ r ≡ signed16 n ⌝ }
+    ensures { λ r. ⌜ (r ≡ signed16 n) × (natAbs r ≤ 32768) ⌝ }
 {
     if n < 32768 {
         n as i32

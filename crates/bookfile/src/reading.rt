@@ -4,7 +4,7 @@ ghost use Prim.Native.Nat.{ℕ, _+_, _<_, _≤_, min};
 ghost use lib.ListN.{length};
 ghost use Rattle.bookfile.specs.Numbers.{word};
 ghost use Rattle.bookfile.specs.Reading.{HR, sizeOf, sizeAt, ruleAt, offsetAt, ruleReply};
-ghost use Rattle.bookfile.specs.Replies.{markFault, itemReply};
+ghost use Rattle.bookfile.specs.Replies.{fullFault, markFault, itemReply};
 use crate::bytes::long;
 use crate::bytes::signed16;
 use crate::bytes::signed32;
@@ -31,6 +31,13 @@ pub enum Item {
     Refused(u8),
 }
 
+// 5 for a rule past the 1,024th, else 0.
+fn full(count: usize) -> u8
+    ensures { λ r. ⌜ r ≡ fullFault count ⌝ }
+{
+    if 1024 <= count { 5 } else { 0 }
+}
+
 // 2 for an unknown mark, else 3 for BK, else 5 for a rule past the 1,024th, else 0.
 fn mark_fault(mark: u16, count: usize) -> u8
     ensures { λ r. ⌜ r ≡ markFault mark count ⌝ }
@@ -38,12 +45,13 @@ fn mark_fault(mark: u16, count: usize) -> u8
     if mark == 19266 {
         return 3;
     }
-    if mark != 21842 {
-        if mark != 21064 {
-            return 2;
-        }
+    if mark == 21842 {
+        return full(count);
     }
-    if 1024 <= count { 5 } else { 0 }
+    if mark == 21064 {
+        return full(count);
+    }
+    2
 }
 
 // Bytes in all of a rule's record.
