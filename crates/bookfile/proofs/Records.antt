@@ -1,6 +1,6 @@
 -- Records of a book's file. Assumes nothing.
 use mathlib.Core.Path.{_≡_, refl, sym, ap, _∙_}
-use mathlib.Core.Bool.{Bool, true, false, cond, not}
+use mathlib.Core.Bool.{Bool, true, false, cond, not, _||_}
 use mathlib.Core.List.{List, [], _∷_}
 use Prim.Native.Nat.{ℕ, suc, _+_, _*_, _<_, _≤_}
 use native.Mathlib.Omega.{arith}
@@ -10,12 +10,12 @@ use lib.ListN.{length}
 use lib.IntN.{ℤ, pos, _*ℤ_}
 use Rattle.maxatom.specs.declared.Rule.{Rule}
 use Rattle.maxatom.proofs.Choose.{cond-yes, cond-no}
-use Rattle.derivation.specs.Refusals.{Reply, refused, answer, Check, check, reply, jobOutside, offsetOutside}
-use Rattle.derivation.proofs.Checks.{says, skips}
+use Rattle.derivation.specs.Refusals.{Reply, refused, answer, Check, check, reply, verdict, jobsCheck, jobOutside, offsetOutside}
+use Rattle.derivation.proofs.Checks.{says, skips, accepting}
 use Rattle.table.specs.Replies.{faultOf}
 use Rattle.bookfile.specs.Numbers.{word, long, signed16, signed32}
-use Rattle.bookfile.specs.Reading.{BK, RU, HR, known, sizeOf, sizeAt, hoursAt, minutesAt, offsetAt, ruleAt, beyond, outsideAt, recordChecks, ruleReply}
-use Rattle.bookfile.specs.Replies.{fullFault, markFault}
+use Rattle.bookfile.specs.Reading.{BK, RU, HR, known, sizeOf, sizeAt, hoursAt, minutesAt, offsetAt, ruleAt, beyond, outsideAt, recordChecks, ruleReply, headChecks}
+use Rattle.bookfile.specs.Replies.{fullFault, markFault, firstFault}
 use Rattle.bookfile.proofs.Words.{sixty-beyond}
 
 -- what is said of a mark
@@ -138,3 +138,77 @@ module _ (jobs : ℕ) (file : List ℕ) (count at : ℕ) where
 
         pub taken : faultOf jobs rule ≡ 0 → said ≡ answer rule
         taken e = fields-last 0 e .1 refl
+
+-- what is said of the first mark
+module _ (mark : ℕ) where
+  pub first-book : mark ≡ BK → 0 ≡ firstFault mark
+  unfolding firstFault known
+  first-book e = rw e
+
+  pub first-minutes : mark ≡ RU → 3 ≡ firstFault mark
+  unfolding firstFault known
+  first-minutes e = rw e
+
+  pub first-hours : mark ≡ HR → 3 ≡ firstFault mark
+  unfolding firstFault known
+  first-hours e = rw e
+
+  pub first-unknown : (mark ≡ BK → ⊥) → (mark ≡ RU → ⊥) → (mark ≡ HR → ⊥) → 2 ≡ firstFault mark
+  unfolding firstFault known
+  first-unknown p q r = rw (ne-eqb mark BK p, ne-eqb mark RU q, ne-eqb mark HR r)
+
+by-or : (t : Bool) → (t || true) ≡ true
+by-or true = refl
+by-or false = refl
+
+by-first : (more : Reply (Unit {0})) (p q : Bool) (f : ℕ) → cond p 2 (cond q 3 0) ≡ f →
+    ((f ≡ 0 → ⊥) → cond p (refused 2 0) (cond q (refused 3 0) more) ≡ refused f 0) × (f ≡ 0 → cond p (refused 2 0) (cond q (refused 3 0) more) ≡ more)
+by-first more true q f e = ((λ n. rw (← e)), (λ z. absurd (omega arith)))
+by-first more false true f e = ((λ n. rw (← e)), (λ z. absurd (omega arith)))
+by-first more false false f e = ((λ n. absurd (n (sym e))), (λ z. refl))
+
+-- the reply on the first record, check by check
+module _ (file : List ℕ) where
+  abbrev head : Reply (Unit {0})
+  head = verdict (headChecks file)
+
+  abbrev counts : List Check
+  counts = jobsCheck (word file 2) ∷ []
+
+  abbrev body : List Check
+  body = check (ltb (length file) 4) 1 0 ∷ counts
+
+  abbrev opening : List Check
+  opening = check (not (known (word file 0))) 2 0 ∷ check (not (eqb (word file 0) BK)) 3 0 ∷ body
+
+  pub head-short : length file < 2 → head ≡ refused 1 0
+  unfolding headChecks
+  head-short h = says tt (check (ltb (length file) 2) 1 0) opening (lt-ltb _ _ h)
+
+  module _ (h : 2 ≤ length file) where
+    head-first : (f : ℕ) → firstFault (word file 0) ≡ f → ((f ≡ 0 → ⊥) → head ≡ refused f 0) × (f ≡ 0 → head ≡ verdict body)
+    unfolding headChecks reply firstFault
+    head-first f e =
+        let b = by-first (verdict body) (not (known (word file 0))) (not (eqb (word file 0) BK)) f e in
+        let s = cond-no (refused 1 0) (verdict opening) (le-ltb (length file) 2 h) in
+        ((λ n. s ∙ b .0 n), (λ z. s ∙ b .1 z))
+
+    pub head-mark : {f : ℕ} → f ≡ firstFault (word file 0) → (f ≡ 0 → ⊥) → head ≡ refused f 0
+    head-mark {f} e n = head-first f (sym e) .0 n
+
+    module _ (m : firstFault (word file 0) ≡ 0) where
+      pub head-cut : length file < 4 → head ≡ refused 1 0
+      head-cut l = head-first 0 m .1 refl ∙ says tt (check (ltb (length file) 4) 1 0) counts (lt-ltb _ _ l)
+
+      module _ (l : 4 ≤ length file) where
+        head-jobs : head ≡ verdict counts
+        head-jobs = head-first 0 m .1 refl ∙ skips tt (check (ltb (length file) 4) 1 0) counts (le-ltb _ _ l)
+
+        pub head-few : word file 2 < 1 → head ≡ refused 4 0
+        head-few n = head-jobs ∙ says tt (jobsCheck (word file 2)) [] (rw (lt-ltb (word file 2) 1 n))
+
+        pub head-many : 256 < word file 2 → head ≡ refused 4 0
+        head-many n = head-jobs ∙ says tt (jobsCheck (word file 2)) [] (rw (lt-ltb 256 (word file 2) n) (by-or (ltb (word file 2) 1)))
+
+        pub head-passes : 1 ≤ word file 2 → word file 2 ≤ 256 → head ≡ answer tt
+        head-passes p q = head-jobs ∙ accepting counts tt (rw (le-ltb (word file 2) 1 p, le-ltb 256 (word file 2) q), tt)

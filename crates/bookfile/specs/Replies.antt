@@ -21,6 +21,10 @@ fullFault count = cond (leb 1024 count) 5 0
 unfoldable pub markFault : ℕ → ℕ → ℕ
 markFault mark count = cond (not (known mark)) 2 (cond (eqb mark BK) 3 (fullFault count))
 
+-- the number said of the first mark
+unfoldable pub firstFault : ℕ → ℕ
+firstFault mark = cond (not (known mark)) 2 (cond (not (eqb mark BK)) 3 0)
+
 -- one record of a rule, at its byte
 unfoldable pub itemReply : ℕ → Item → Reply Rule
 itemReply at (Item.Taken r) = answer r

@@ -2,15 +2,18 @@
 ghost use mathlib.Core.Path.{_≡_};
 ghost use Prim.Native.Nat.{ℕ, _+_, _<_, _≤_, min};
 ghost use lib.ListN.{length};
+ghost use Rattle.derivation.specs.Refusals.{refused, verdict};
+ghost use Rattle.table.specs.Replies.{checkedReply};
 ghost use Rattle.bookfile.specs.Numbers.{word};
-ghost use Rattle.bookfile.specs.Reading.{HR, sizeOf, sizeAt, ruleAt, offsetAt, ruleReply};
-ghost use Rattle.bookfile.specs.Replies.{fullFault, markFault, itemReply};
+ghost use Rattle.bookfile.specs.Reading.{sizeOf, sizeAt, ruleAt, offsetAt, ruleReply, headChecks, rulesFrom};
+ghost use Rattle.bookfile.specs.Replies.{fullFault, markFault, firstFault, itemReply, readOf, counted, fileReply};
 use crate::bytes::long;
 use crate::bytes::signed16;
 use crate::bytes::signed32;
 use crate::bytes::word;
 use derivation::Refusal;
 use maxatom::Rule;
+use table::Checked;
 use table::fault;
 
 // The job count and the rule count of a book.
@@ -116,4 +119,93 @@ fn read_record(file: &[u8], jobs: usize, count: usize, at: usize) -> Item
         return Item::Refused(g);
     }
     Item::Taken(r)
+}
+
+// What is said of the first mark: 2 where it is unknown, else 3 where it is not BK, else 0.
+fn first_fault(mark: u16) -> u8
+    ensures { λ r. ⌜ r ≡ firstFault mark ⌝ }
+{
+    if mark == 19266 {
+        return 0;
+    }
+    if mark == 21842 {
+        return 3;
+    }
+    if mark == 21064 {
+        return 3;
+    }
+    2
+}
+
+fn refuse(number: u8) -> Checked
+    ensures { λ r. ⌜ checkedReply r ≡ refused number 0 ⌝ }
+{
+    Checked::Refused(Refusal {
+        number: number,
+        place: 0,
+    })
+}
+
+// The first record: its checks in order.
+fn check_head(file: &[u8]) -> Checked
+    ensures { λ r. ⌜ checkedReply r ≡ verdict (headChecks (now (file .entry))) ⌝ }
+{
+    if file.len() < 2 {
+        return refuse(1);
+    }
+    let f = first_fault(word(file, 0));
+    if f != 0 {
+        return refuse(f);
+    }
+    if file.len() < 4 {
+        return refuse(1);
+    }
+    let n = word(file, 2);
+    if n < 1 {
+        return refuse(4);
+    }
+    if 256 < n {
+        return refuse(4);
+    }
+    Checked::Accepted
+}
+
+// The records of rules, from byte 4 to the end of the file: their number, or the first refusal.
+fn scan(file: &[u8], jobs: usize) -> Read
+    requires { ⌜ 4 ≤ length (now file) ⌝ }
+    ensures { λ r. ⌜ readOf r ≡ counted jobs (rulesFrom 1025 jobs (now (file .entry)) 0 4) ⌝ }
+{
+    let mut at = 4;
+    let mut count = 0;
+    while at < file.len() {
+        match read_record(file, jobs, count, at) {
+            Item::Refused(f) => {
+                return Read::Refused(Refusal {
+                    number: f,
+                    place: at,
+                });
+            }
+            Item::Taken(_) => {
+                at += size_at(file, at);
+                count += 1;
+            }
+        }
+    }
+    Read::Book(Counts {
+        jobs: jobs,
+        rules: count,
+    })
+}
+
+// A whole file, checked: the job count and the rule count, or the first refusal.
+pub fn examine(file: &[u8]) -> Read
+    ensures { λ r. ⌜ readOf r ≡ fileReply (now (file .entry)) ⌝ }
+{
+    match check_head(file) {
+        Checked::Refused(r) => Read::Refused(r),
+        Checked::Accepted => {
+            let jobs = word(file, 2) as usize;
+            scan(file, jobs)
+        }
+    }
 }
