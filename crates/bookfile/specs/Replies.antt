@@ -1,13 +1,14 @@
 -- The replies of the calls, as document 01 puts them.
+use mathlib.Core.Path.{_≡_}
 use mathlib.Core.Bool.{Bool, cond, not, _||_}
 use mathlib.Core.List.{List, [], _∷_, _++_, map}
-use Prim.Native.Nat.{ℕ, min}
+use Prim.Native.Nat.{ℕ, _+_, _≤_, min}
 use lib.Dec.{eqb, leb, ltb}
 use lib.ListN.{length, drop}
 use Rattle.maxatom.specs.declared.Rule.{Rule}
-use Rattle.derivation.specs.Refusals.{Reply, refused, answer, check, reply}
+use Rattle.derivation.specs.Refusals.{Reply, refused, answer, check, reply, verdict, lent}
 use Rattle.bookfile.specs.Numbers.{word}
-use Rattle.bookfile.specs.Reading.{BK, known, Entry, bookReply}
+use Rattle.bookfile.specs.Reading.{BK, known, sizeAt, ruleAt, headChecks, Entry, rulesOf, bookReply, entries}
 use Rattle.bookfile.specs.declared.reading.Counts.{Counts}
 use Rattle.bookfile.specs.declared.reading.Read.{Read}
 use Rattle.bookfile.specs.declared.reading.Read.the-variants as Read
@@ -59,3 +60,17 @@ over field entries column = map (λ (e : Entry). field (e .rule)) entries ++ dro
 -- the room of four columns is that of the shortest
 abbrev pub roomOf : ℕ → ℕ → ℕ → ℕ → ℕ
 roomOf xs ys zs ks = min (min xs ys) (min zs ks)
+
+-- a column after the reader: nothing lent changes where it is refused
+unfoldable pub readInto : {A : Type 0} → List ℕ → ℕ → (Rule → A) → List A → List A
+readInto file room field column = lent (readReply file room) column (over field (entries file) column)
+
+-- a file that is not refused
+pub record Listed (file : List ℕ) : Type 0 where
+  pub head : verdict (headChecks file) ≡ answer tt
+  pub all : rulesOf file ≡ answer (entries file)
+
+-- the record of a rule begins at a byte, and is in the file
+pub record Begins (file : List ℕ) (number at : ℕ) : Type 0 where
+  pub here : drop number (entries file) ≡ record { at = at; rule = ruleAt file at } ∷ drop (number + 1) (entries file)
+  pub inside : at + sizeAt file at ≤ length file

@@ -3,10 +3,12 @@ ghost use mathlib.Core.Path.{_≡_};
 ghost use Prim.Native.Nat.{ℕ, _+_, _<_, _≤_, min};
 ghost use lib.ListN.{length};
 ghost use Rattle.derivation.specs.Refusals.{refused, verdict};
+ghost use Rattle.maxatom.specs.declared.Rule.{Rule};
+ghost use Rattle.table.specs.Columns.{Columns};
 ghost use Rattle.table.specs.Replies.{checkedReply};
 ghost use Rattle.bookfile.specs.Numbers.{word};
-ghost use Rattle.bookfile.specs.Reading.{sizeOf, sizeAt, ruleAt, offsetAt, ruleReply, headChecks, rulesFrom};
-ghost use Rattle.bookfile.specs.Replies.{fullFault, markFault, firstFault, itemReply, readOf, counted, fileReply};
+ghost use Rattle.bookfile.specs.Reading.{sizeOf, sizeAt, ruleAt, offsetAt, ruleReply, headChecks, rulesFrom, entries, recordOf};
+ghost use Rattle.bookfile.specs.Replies.{fullFault, markFault, firstFault, itemReply, readOf, counted, fileReply, readReply, roomOf, over, readInto, Listed, Begins};
 use crate::bytes::long;
 use crate::bytes::signed16;
 use crate::bytes::signed32;
@@ -206,6 +208,108 @@ pub fn examine(file: &[u8]) -> Read
         Checked::Accepted => {
             let jobs = word(file, 2) as usize;
             scan(file, jobs)
+        }
+    }
+}
+
+// The byte where the record of a rule begins.
+fn begin(file: &[u8], number: usize) -> usize
+    requires { ⌜ Listed (now file) ⌝ }
+    requires { ⌜ number < length (entries (now file)) ⌝ }
+    ensures { λ r. ⌜ Begins (now (file .entry)) number r ⌝ }
+{
+    let mut at = 4;
+    let mut i = 0;
+    while i < number {
+        at += size_at(file, at);
+        i += 1;
+    }
+    at
+}
+
+// The record of a rule, by the rule's number; empty if the file is refused or holds no such rule.
+pub fn record(file: &[u8], number: usize) -> &[u8]
+    ensures { λ r. ⌜ now r ≡ recordOf (now (file .entry)) number ⌝ }
+{
+    match examine(file) {
+        Read::Refused(_) => {
+            return &file[0..0];
+        }
+        Read::Book(c) => {
+            if c.rules <= number {
+                return &file[0..0];
+            }
+            let a = begin(file, number);
+            let e = a + size_at(file, a);
+            &file[a..e]
+        }
+    }
+}
+
+// The rules of a file that was examined, written into the columns.
+fn fill(
+    file: &[u8],
+    rules: usize,
+    xs: &mut [u16],
+    ys: &mut [u16],
+    zs: &mut [u16],
+    ks: &mut [i32],
+)
+    requires { ⌜ Listed (now file) ⌝ }
+    requires { ⌜ rules ≡ length (entries (now file)) ⌝ }
+    requires { ⌜ Columns (now xs) (now ys) (now zs) (now ks) rules ⌝ }
+    ensures first { λ _. ⌜ now (xs .exit) ≡ over (λ (q : Rule). q .x) (entries (now (file .entry))) (now (xs .entry)) ⌝ }
+    ensures second { λ _. ⌜ now (ys .exit) ≡ over (λ (q : Rule). q .y) (entries (now (file .entry))) (now (ys .entry)) ⌝ }
+    ensures third { λ _. ⌜ now (zs .exit) ≡ over (λ (q : Rule). q .z) (entries (now (file .entry))) (now (zs .entry)) ⌝ }
+    ensures offset { λ _. ⌜ now (ks .exit) ≡ over (λ (q : Rule). q .k) (entries (now (file .entry))) (now (ks .entry)) ⌝ }
+{
+    let mut at = 4;
+    let mut i = 0;
+    while i < rules {
+        let r = rule_at(file, at);
+        let k = r.k;
+        xs[i] = r.x;
+        ys[i] = r.y;
+        zs[i] = r.z;
+        ks[i] = k;
+        at += size_at(file, at);
+        i += 1;
+    }
+}
+
+fn least(a: usize, b: usize) -> usize
+    ensures { λ r. ⌜ r ≡ min a b ⌝ }
+{
+    if a < b { a } else { b }
+}
+
+// The reader: the job count and the rule count, with the rules in the columns; or the refusal, with nothing written.
+pub fn read_book(
+    file: &[u8],
+    xs: &mut [u16],
+    ys: &mut [u16],
+    zs: &mut [u16],
+    ks: &mut [i32],
+) -> Read
+    ensures said { λ r. ⌜ readOf r ≡ readReply (now (file .entry)) (roomOf (length (now (xs .entry))) (length (now (ys .entry))) (length (now (zs .entry))) (length (now (ks .entry)))) ⌝ }
+    ensures first { λ _. ⌜ now (xs .exit) ≡ readInto (now (file .entry)) (roomOf (length (now (xs .entry))) (length (now (ys .entry))) (length (now (zs .entry))) (length (now (ks .entry)))) (λ (q : Rule). q .x) (now (xs .entry)) ⌝ }
+    ensures second { λ _. ⌜ now (ys .exit) ≡ readInto (now (file .entry)) (roomOf (length (now (xs .entry))) (length (now (ys .entry))) (length (now (zs .entry))) (length (now (ks .entry)))) (λ (q : Rule). q .y) (now (ys .entry)) ⌝ }
+    ensures third { λ _. ⌜ now (zs .exit) ≡ readInto (now (file .entry)) (roomOf (length (now (xs .entry))) (length (now (ys .entry))) (length (now (zs .entry))) (length (now (ks .entry)))) (λ (q : Rule). q .z) (now (zs .entry)) ⌝ }
+    ensures offset { λ _. ⌜ now (ks .exit) ≡ readInto (now (file .entry)) (roomOf (length (now (xs .entry))) (length (now (ys .entry))) (length (now (zs .entry))) (length (now (ks .entry)))) (λ (q : Rule). q .k) (now (ks .entry)) ⌝ }
+{
+    match examine(file) {
+        Read::Refused(r) => Read::Refused(r),
+        Read::Book(c) => {
+            let n = c.rules;
+            let room = least(least(xs.len(), ys.len()), least(zs.len(), ks.len()));
+            if room < n {
+                return Read::Refused(Refusal {
+                    number: 21,
+                    place: 0,
+                });
+            }
+            fill(file, n, xs, ys, zs, ks);
+            Read::Book(c)
         }
     }
 }
