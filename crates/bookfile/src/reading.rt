@@ -247,14 +247,7 @@ pub fn record(file: &[u8], number: usize) -> &[u8]
 }
 
 // The rules of a file that was examined, written into the columns.
-fn fill(
-    file: &[u8],
-    rules: usize,
-    xs: &mut [u16],
-    ys: &mut [u16],
-    zs: &mut [u16],
-    ks: &mut [i32],
-)
+fn fill(file: &[u8], rules: usize, xs: &mut [u16], ys: &mut [u16], zs: &mut [u16], ks: &mut [i32])
     requires { ⌜ Listed (now file) ⌝ }
     requires { ⌜ rules ≡ length (entries (now file)) ⌝ }
     requires { ⌜ Columns (now xs) (now ys) (now zs) (now ks) rules ⌝ }

@@ -26,22 +26,58 @@ size c = ap (λ (q : Counts). q .rules) (listed-counts _ (said c))
 
 room-is : (c : tie.After-least3) → c .least3 .result ≡ room (c .before .before .before .before .before .before .before .before .before .before .before)
 unfolding room
-room-is c = ?
+room-is c = rw (c .before .before .least .ensures, c .before .least2 .ensures) at (c .least3 .ensures)
 
 returns : tie.Need-returns
-returns c = ?
+unfolding readOf room
+returns c =
+    let k = c .before .before .before .before .before in
+    let h : c .before .least3 .result < k .c .given .0 .0 .rules = c .if1 .taken in
+    let e = read-short _ _ (said k) (rw (room-is (c .before)) at h) in
+    (e, (left-alone _ _ _ _ e, (left-alone _ _ _ _ e, (left-alone _ _ _ _ e, left-alone _ _ _ _ e))))
 
 fill-requires : tie.Need-fill-requires
-fill-requires c κs = ?
+unfolding room
+fill-requires c κs =
+    let e = c .before .before .before .before in
+    let k = e .before .before .before .before .before in
+    let a = k .before .before .before .before .before .before .before .args in
+    let x = length (now (a .xs)) in
+    let y = length (now (a .ys)) in
+    let z = length (now (a .zs)) in
+    let w = length (now (a .ks)) in
+    let h : k .c .given .0 .0 .rules ≤ e .before .least3 .result = e .if1 .left in
+    let r : k .c .given .0 .0 .rules ≤ min (min x y) (min z w) = rw (room-is (e .before)) at h in
+    let l = min-le-left (min x y) (min z w) in
+    let m = min-le-right (min x y) (min z w) in (
+      listed _ (said k),
+      (
+        size k,
+        record {
+          xlong = omega (arith, min-le-left x y);
+          ylong = omega (arith, min-le-right x y);
+          zlong = omega (arith, min-le-left z w);
+          klong = omega (arith, min-le-right z w);
+        },
+      ),
+    )
 
 returns-2 : tie.Need-returns-2
 unfolding readOf
 returns-2 c =
     let e = read-refused _ _ (sym (c .before .before .before .examine .ensures) ∙ ap readOf (c .before .r .given .1)) in
-    ?
+    (e, (left-alone _ _ _ _ e, (left-alone _ _ _ _ e, (left-alone _ _ _ _ e, left-alone _ _ _ _ e))))
 
 returns-3 : tie.Need-returns-3
-returns-3 c = ?
+unfolding readOf room
+returns-3 c =
+    let f = c .before .before .before .before .before .before .before in
+    let e = f .before .before .before .before .before in
+    let k = e .before .before .before .before .before in
+    let h : k .c .given .0 .0 .rules ≤ e .before .least3 .result = e .if1 .left in
+    let q = read-room _ _ (said k) (rw (room-is (e .before)) at h) in
+    let v = f .fill .ensures in
+    (q, (v .0 ∙ written _ _ _ _ q, (v .1 .0 ∙ written _ _ _ _ q, (v .1 .1 .0 ∙ written _ _ _ _ q, v .1 .1 .1 ∙ written _ _ _ _ q))))
 
 pub read-book-spec : {M : Type 1} → statement M
 read-book-spec =
@@ -56,8 +92,8 @@ read-book-spec =
     returns
     fill-requires
     returns-2
-    (λ c. ?)
-    (λ c. ?)
-    (λ c. ?)
-    (λ c. ?)
+    (λ c. search needs)
+    (λ c. search needs)
+    (λ c. search needs)
+    (λ c. search needs)
     returns-3)
