@@ -1,1 +1,3 @@
 // The book file: the reader, a rule's record, the plan writer.
+pub mod bytes;
+pub mod reading;

@@ -1,0 +1,4 @@
+pub mod Words
+pub mod Records
+pub mod Rules
+pub mod Walks

@@ -1,0 +1,9 @@
+use borrow.Author.Needs.{needs}
+use borrow.Author.Tests.{le-leb, lt-leb}
+use Rattle.bookfile.specs.Replies.{fullFault}
+use Rattle.bookfile.proofs.reading.full.Statement.{statement}
+use Rattle.bookfile.proofs.reading.full.Tie as tie
+
+pub full-spec : {M : Type 1} → statement M
+unfolding fullFault
+full-spec = tie.close (tie.spec (λ c. rw (le-leb _ _ (c .if1 .taken))) (λ c. rw (lt-leb _ _ (c .if1 .left))))
