@@ -34,7 +34,7 @@ module _ {A : Type 0} (a : A) where
   skips-all [] more e = refl
   skips-all (c ∷ checks) more e = skips c (checks ++ more) (e .0) ∙ skips-all checks more (e .1)
 
-neither : (p q : Bool) → (p || q) ≡ false → (p ≡ false) × (q ≡ false)
+pub neither : (p q : Bool) → (p || q) ≡ false → (p ≡ false) × (q ≡ false)
 neither true q e = clash refl e
 neither false q e = (refl, e)
 

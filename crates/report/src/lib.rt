@@ -1,2 +1,6 @@
+// The text that latest prints.
+mod latest;
 mod lines;
 mod text;
+
+pub use latest::report;

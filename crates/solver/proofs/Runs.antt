@@ -253,7 +253,7 @@ module _ (jobs : ℕ) (rules : List Rule) (buffer : List ℤ) where
   same-answer e = cc
 
   -- an answer is the run's, of an accepted book, and the times are those that the run left
-  answered : (w : Answer) → runReply jobs rules buffer ≡ answer w →
+  pub answered : (w : Answer) → runReply jobs rules buffer ≡ answer w →
       Accepted jobs rules × (answerOf (solve jobs rules) ≡ w) × (runTimes jobs rules buffer ≡ solve jobs rules .times)
   unfolding runReply accepts lent
   answered w e =
