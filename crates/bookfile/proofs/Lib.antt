@@ -2,3 +2,4 @@ pub mod Words
 pub mod Records
 pub mod Rules
 pub mod Walks
+pub mod Plans
