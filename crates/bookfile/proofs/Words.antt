@@ -5,17 +5,17 @@ use mathlib.Core.Bool.{Bool, true, false, _||_}
 use Prim.Native.Nat.{ℕ, suc, _+_, _*_, _<_, _≤_, _^_}
 use native.Mathlib.Omega.{arith}
 use borrow.Author.Tests.{lt-ltb, le-ltb}
-use lib.Dec.{ltb}
+use lib.Dec.{T, ltb}
 use lib.IntN.{ℤ, pos, negsuc, negℤ, natAbs, _+ℤ_, _-ℤ_, _*ℤ_, pos-*ℤ-pos, pos-*ℤ-negsuc}
 use native.Mathlib.Decide.{decLt}
-use lib.Signed.{ltZ, _<ℤ_, _≤ℤ_}
+use lib.Signed.{ltZ, nonNeg, _<ℤ_, _≤ℤ_}
 use mir.Syntax.{Width, w32, w64}
 use mir.Val.{SFits, hbits}
 use Rattle.maxatom.specs.Book.{minus}
 use Rattle.maxatom.proofs.Choose.{cond-yes, cond-no}
-use Rattle.maxatom.proofs.Integers.{up, dn, add-parts, neg-parts, one-part, eq-make, abs-parts, minus-parts, le-make, le-read, lt-make, lt-read, true-lt, lt-true, false-lt, lt-false}
-use Rattle.table.proofs.Signed.{fits-make}
-use Rattle.bookfile.specs.Numbers.{signed}
+use Rattle.maxatom.proofs.Integers.{up, dn, add-parts, add-bounds, neg-parts, one-part, eq-make, abs-parts, minus-parts, le-make, le-read, lt-make, lt-read, true-lt, lt-true, false-lt, lt-false}
+use Rattle.table.proofs.Signed.{fits-make, fits-read, not-negative}
+use Rattle.bookfile.specs.Numbers.{signed, unsigned32}
 use Rattle.bookfile.specs.Reading.{beyond}
 
 pub signed-low : (half n : ℕ) → n < half → pos n ≡ signed half n
@@ -79,3 +79,37 @@ sixty-beyond h =
     lt-same (pos 336) h (pos 20160) (pos 60 *ℤ h) (λ q. lt-make (omega (arith, lt-read q, p)))
     (λ q. le-make (omega (arith, le-read q, p))) in
     cc
+
+-- the 32 bits of a number below zero, and of another
+module _ (t : ℤ) (f : SFits w32 t) where
+  abbrev raised : ℤ
+  raised = t +ℤ pos 4294967296
+
+  pub raised-fits : SFits w64 raised
+  raised-fits =
+      fits-make w64 (omega (arith, add-bounds t (pos 4294967296), fits-read w32 f)) (omega (arith, add-bounds t (pos 4294967296), fits-read w32 f))
+
+  pub raised-parts : t <ℤ pos 0 → (dn raised ≡ 0) × (up raised + dn t ≡ 4294967296) × (1 ≤ dn t)
+  raised-parts h =
+      let p = add-parts t (pos 4294967296) in
+      let l = lt-read h in
+      let b = fits-read w32 f in
+      let u : up t ≡ 0 = ⊎-elim (λ q. q) (λ q. absurd (omega arith)) (one-part t) in
+      ⊎-elim (λ q. absurd (omega (arith, b .1))) (λ q. (q, omega arith, omega arith)) (one-part raised)
+
+  pub raised-not : t <ℤ pos 0 → T (nonNeg raised)
+  raised-not h = not-negative raised (le-make (omega (arith, raised-parts h)))
+
+  pub raised-small : t <ℤ pos 0 → natAbs raised < 2 ^ 32
+  raised-small h = omega (arith, raised-parts h, abs-parts raised)
+
+  pub plain-small : natAbs t < 2 ^ 32
+  plain-small = omega (arith, fits-read w32 f, abs-parts t)
+
+pub unsigned-raised : (t : ℤ) → ltZ t (pos 0) ≡ true → natAbs (t +ℤ pos 4294967296) ≡ unsigned32 t
+unfolding unsigned32
+unsigned-raised t h = ap natAbs (sym (cond-yes _ _ h))
+
+pub unsigned-plain : (t : ℤ) → ltZ t (pos 0) ≡ false → natAbs t ≡ unsigned32 t
+unfolding unsigned32
+unsigned-plain t h = ap natAbs (sym (cond-no _ _ h))
