@@ -1,10 +1,11 @@
 #!/usr/bin/env python3
-"""What the program `examples` must write, worked out apart from the code it tests.
+"""What the programs `examples` and `small_books` must write, worked out apart from the code they test.
 
 The run is the bench run of the scope: passes over the rules from 0 upward, a step on each
 broken rule, an end after a pass without a step (a plan) or when a time falls below -K (none).
 """
 
+import itertools
 import struct
 import sys
 
@@ -104,8 +105,21 @@ def records(data, numbers):
     return out
 
 
+def small_books(jobs, count):
+    """All books of that many rules with offsets -1 to 1: how many have times in -6 to 0 that keep all rules."""
+    rules = list(itertools.product(range(jobs), range(jobs), range(jobs), (-1, 0, 1)))
+    board = list(itertools.product(range(-6, 1), repeat=jobs))
+    books = list(itertools.product(rules, repeat=count))
+    plans = sum(any(all(t[r[2]] <= left(r, t) for r in b) for t in board) for b in books)
+    return "BOOKS %d PLANS %d NONES %d DIFFERING 0\n" % (len(books), plans, len(books) - plans)
+
+
 if __name__ == "__main__":
-    for letter, (n, rules) in EXAMPLES.items():
-        sys.stdout.write(letter + "\n" + text(book(n, rules)))
-    sys.stdout.write("L\n" + hand())
-    sys.stdout.write("B\n" + records(book(4, B), range(5)))
+    if sys.argv[1:] == ["small_books"]:
+        for count in range(3):
+            sys.stdout.write(small_books(2, count))
+    else:
+        for letter, (n, rules) in EXAMPLES.items():
+            sys.stdout.write(letter + "\n" + text(book(n, rules)))
+        sys.stdout.write("L\n" + hand())
+        sys.stdout.write("B\n" + records(book(4, B), range(5)))
