@@ -6,3 +6,4 @@ pub mod Plans
 pub mod Prefix
 pub mod Determined
 pub mod Stretches
+pub mod Tables
