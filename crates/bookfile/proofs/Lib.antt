@@ -7,3 +7,4 @@ pub mod Prefix
 pub mod Determined
 pub mod Stretches
 pub mod Tables
+pub mod Files

@@ -9,7 +9,8 @@ use mir.Syntax.{w32}
 use mir.Val.{SFits}
 use Rattle.maxatom.specs.Book.{Each, Accepted}
 use Rattle.maxatom.specs.declared.Rule.{Rule}
-use Rattle.derivation.specs.Refusals.{answer}
+use Rattle.derivation.specs.Refusals.{refused, answer}
+use Rattle.derivation.specs.Examples.{exampleB}
 use Rattle.table.specs.Columns as columns
 use Rattle.bookfile.specs.Reading.{Entry, sizeAt, ruleAt, bookReply, entries, recordOf}
 use Rattle.bookfile.specs.Replies.{fileReply, over}
@@ -54,3 +55,21 @@ ReadColumns =
     columns.rulesOf (over (λ (r : Rule). r .x) (entries file) xs) (over (λ (r : Rule). r .y) (entries file) ys) (over (λ (r : Rule). r .z) (entries file) zs)
     (over (λ (r : Rule). r .k) (entries file) ks) (length (rulesIn file))
     ≡ rulesIn file
+
+-- example B's file, 52 bytes, of document 01
+abbrev pub fileB : List ℕ
+fileB =
+    66 ∷ 75 ∷ 4 ∷ 0
+    ∷ 82 ∷ 85 ∷ 0 ∷ 0 ∷ 0 ∷ 0 ∷ 1 ∷ 0 ∷ 246 ∷ 255 ∷ 255 ∷ 255
+    ∷ 82 ∷ 85 ∷ 3 ∷ 0 ∷ 3 ∷ 0 ∷ 2 ∷ 0 ∷ 0 ∷ 0 ∷ 0 ∷ 0
+    ∷ 82 ∷ 85 ∷ 1 ∷ 0 ∷ 2 ∷ 0 ∷ 3 ∷ 0 ∷ 255 ∷ 255 ∷ 255 ∷ 255
+    ∷ 82 ∷ 85 ∷ 1 ∷ 0 ∷ 0 ∷ 0 ∷ 3 ∷ 0 ∷ 25 ∷ 0 ∷ 0 ∷ 0
+    ∷ []
+
+-- files that document 01 names
+pub record FileExamples : Type 0 where
+  pub counts-b : fileReply fileB ≡ answer (record { jobs = 4; rules = 4 })
+  pub rules-b : rulesIn fileB ≡ exampleB
+  pub first-b : recordOf fileB 0 ≡ 82 ∷ 85 ∷ 0 ∷ 0 ∷ 0 ∷ 0 ∷ 1 ∷ 0 ∷ 246 ∷ 255 ∷ 255 ∷ 255 ∷ []
+  pub cut-mark : fileReply (66 ∷ 75 ∷ 1 ∷ 0 ∷ 82 ∷ []) ≡ refused 1 4
+  pub no-byte : fileReply [] ≡ refused 1 0
