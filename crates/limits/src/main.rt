@@ -1,7 +1,9 @@
-// Files at and past each limit of document 01, one line a case: what the reader answers.
+// Files and plans at and past each limit of document 01, one line a case: what the reader and the plan writer answer.
 ghost use Prim.Native.Nat.{ℕ, _<_, _≤_};
 use bookfile::reading::Read;
 use bookfile::reading::read_book;
+use bookfile::writing::Written;
+use bookfile::writing::write_plan;
 
 fn put(buf: &mut [u8], at: usize, b: u8) {
     if at < buf.len() {
@@ -137,6 +139,28 @@ fn with_job(buf: &mut [u8], jobs: u16, z: u16) {
     show(buf, 16);
 }
 
+// What the plan writer answers on n times, from a byte of 2,048 on.
+fn with_times(n: usize, at: usize)
+    requires { ⌜ n ≤ 300 ⌝ }
+{
+    io::write_all(1, b"times ");
+    io::print_decimal(1, n as u64);
+    io::write_all(1, b" at ");
+    io::print_decimal(1, at as u64);
+    io::write_all(1, b": ");
+    let times = [0i32; 300];
+    let mut out = [0u8; 2048];
+    match write_plan(&times[0..n], &mut out, at) {
+        Written::Done => {
+            io::write_all(1, b"WRITTEN\n");
+        }
+        Written::Refused(r) => {
+            io::write_all(1, b"REFUSED ");
+            say(r.number as u64, r.place as u64);
+        }
+    }
+}
+
 fn main() {
     let mut buf = [0u8; 16384];
     with_jobs(&mut buf, 0);
@@ -159,4 +183,13 @@ fn main() {
     show(b"\x42\x4B\x01\x00\x52", 5);
     io::write_all(1, b"no byte: ");
     show(b"\x42", 0);
+    with_times(0, 0);
+    with_times(1, 0);
+    with_times(256, 0);
+    with_times(256, 1);
+    with_times(257, 0);
+    with_times(1, 2040);
+    with_times(1, 2041);
+    with_times(1, 2049);
+    with_times(1, 18446744073709551615);
 }
