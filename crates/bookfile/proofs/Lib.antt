@@ -7,3 +7,5 @@ pub mod Prefix
 pub mod Determined
 pub mod Stretches
 pub mod Columns
+pub mod Tables
+pub mod Files
