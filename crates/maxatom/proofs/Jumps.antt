@@ -4,7 +4,8 @@ use mathlib.Core.Path.{_≡_, refl, sym, ap, subst, _∙_}
 use mathlib.Core.Bool.{Bool, true, false}
 use mathlib.Core.List.{List, [], _∷_}
 use Prim.Native.Nat.{ℕ, zero, suc, _+_, _*_, _≤_}
-use native.Mathlib.Nat.{mul-add, add-mul, suc-mul, zero-mul, mul-zero, mul-le-mul-left}
+use native.Mathlib.Nat.{mul-add, add-mul, suc-mul, zero-mul, mul-zero, mul-le-mul-left, eq-of-mul-eq-mul-left}
+use native.Mathlib.Numerals.{add-one}
 use native.Mathlib.Omega.{arith}
 use lib.ListN.{set}
 use lib.IntN.{ℤ, pos, _+ℤ_}
@@ -142,3 +143,108 @@ between some {floor = floor} (lower {c = c} a vn vf hn hf more) {m = m} l =
       walk = lower (mid-lt some left (mids-at l (c .target)) vn vf) (mid-le some (mid-same floor) left hn hf) (r .walk);
       mids = r .mids;
     }
+
+-- lists of checks one after another, each with a step or more
+pub data Rounds (floor : ℤ) (cs : List Clause) : List ℤ → List ℤ → List ℤ → List ℤ → ℕ → Type 0 where
+  start : {n f : List ℤ} → Rounds floor cs n f n f 0
+  round : {n f n′ f′ n″ f″ : List ℤ} {s k : ℕ} → Rounds floor cs n f n′ f′ s → Lockstep floor cs n′ f′ n″ f″ k → 1 ≤ k → Rounds floor cs n f n″ f″ (s + k)
+
+pub data Passing (floor : ℤ) (cs : List Clause) : List ℤ → List ℤ → ℕ → Type 0 where
+  start : {b : List ℤ} → Passing floor cs b b 0
+  round : {b b′ b″ : List ℤ} {s k : ℕ} → Passing floor cs b b′ s → Walk floor cs b′ b″ k → 1 ≤ k → Passing floor cs b b″ (s + k)
+
+-- the passes from an assignment between, and where they end
+record Passed (p q : ℕ) (floor : ℤ) (cs : List Clause) (near mid far : List ℤ) (s : ℕ) : Type 0 where
+  after : List ℤ
+  passing : Passing floor cs mid after s
+  mids : Mids p q near after far
+
+module _ {floor : ℤ} {cs : List Clause} where
+  joined : {a b d : List ℤ} {s k : ℕ} → Passing floor cs a b s → Passing floor cs b d k → Passing floor cs a d (s + k)
+  joined {a = a} {d = d} {s = s} p start = subst (λ (n : ℕ). Passing floor cs a d n) (omega arith) p
+  joined {a = a} {d = d} {s = s} p (round {s = i} {k = k} q w h) = subst (λ (n : ℕ). Passing floor cs a d n) (omega arith) (round (joined p q) w h)
+
+  passed : {p q : ℕ} → 1 ≤ p + q → {n f n′ f′ : List ℤ} {s : ℕ} → Rounds floor cs n f n′ f′ s → {m : List ℤ} → Mids p q n m f → Passed p q floor cs n′ m f′ s
+  passed some start l = record { after = _; passing = start; mids = l }
+  passed some (round r k h) l =
+      let a = passed some r l in
+      let b = between some k (a .mids) in
+      record { after = b .after; passing = round (a .passing) (b .walk) h; mids = b .mids }
+
+-- the drop is the same at both ends, and the far end lies t drops below the near one
+pub record Apart (t : ℕ) (b near c far : ℤ) : Type 0 where
+  pub drop : ℕ
+  pub near-is : b ≡ near +ℤ pos drop
+  pub far-is : c ≡ far +ℤ pos drop
+  pub apart : b ≡ c +ℤ pos (t * drop)
+
+pub data Aparts (t : ℕ) : List ℤ → List ℤ → List ℤ → List ℤ → Type 0 where
+  none : Aparts t [] [] [] []
+  next : {b n c f : ℤ} {bs near cs far : List ℤ} → Apart t b n c f → Aparts t bs near cs far → Aparts t (b ∷ bs) (n ∷ near) (c ∷ cs) (f ∷ far)
+
+scaled-drop : (p : ℕ) {b : ℤ} (n : ℤ) (d : ℕ) → b ≡ n +ℤ pos d → p * up b + p * dn n ≡ p * up n + p * d + p * dn b
+scaled-drop p {b = b} n d e = rw e (omega (arith, scaled-sum p n (pos d), mul-zero p))
+
+-- a drop further: one less of the near end, one more of the far end
+further : (p q : ℕ) {b n c f m : ℤ} → Apart (suc p + q) b n c f → Mid (suc p) q n m f → Mid p (suc q) b m c
+further p q {b = b} {n = n} {c = c} {f = f} {m = m} a h =
+    let d = a .drop in
+    record {
+      is = omega (
+        arith,
+        h .is,
+        scaled-drop (suc p) n d (a .near-is),
+        scaled-drop q f d (a .far-is),
+        scaled-drop 1 c ((suc p + q) * d) (a .apart),
+        add-mul (suc p) q d,
+        suc-mul p (up m),
+        suc-mul p (dn m),
+        suc-mul p (up b),
+        suc-mul p (dn b),
+        suc-mul p (up n),
+        suc-mul p (dn n),
+        suc-mul q (up m),
+        suc-mul q (dn m),
+        suc-mul q (up c),
+        suc-mul q (dn c),
+      )
+    }
+
+-- wholly at the far end
+ends : (q : ℕ) {n m f : ℤ} → Mid zero (suc q) n m f → m ≡ f
+ends q {n = n} {m = m} {f = f} h =
+    eq-make
+    (eq-of-mul-eq-mul-left (suc q) (omega arith) (up m + dn f) (up f + dn m)
+    (omega (arith, h .is, mul-add (suc q) (up m) (dn f), mul-add (suc q) (up f) (dn m), zero-mul (up m), zero-mul (dn m), zero-mul (up n), zero-mul (dn n))))
+
+furthers : (p q : ℕ) {b n c f m : List ℤ} → Aparts (suc p + q) b n c f → Mids (suc p) q n m f → Mids p (suc q) b m c
+furthers p q none none = none
+furthers p q (next a l) (next h k) = next (further p q a h) (furthers p q l k)
+
+starts : (p : ℕ) {b n c f : List ℤ} {t : ℕ} → Aparts t b n c f → Mids p zero b b c
+starts p none = none
+starts p (next {b = b} {c = c} a l) =
+    let h : Mid p zero b b c = record { is = omega (arith, zero-mul (up b), zero-mul (dn b), zero-mul (up c), zero-mul (dn c)) } in
+    next h (starts p l)
+
+all-end : (q : ℕ) {b n c f m : List ℤ} {t : ℕ} → Aparts t b n c f → Mids zero (suc q) n m f → m ≡ f
+all-end q none none = refl
+all-end q (next a l) (next h k) = rw (ends q h, all-end q l k)
+
+module _ {floor : ℤ} {cs : List Clause} {b c near far : List ℤ} {s : ℕ} (r : Rounds floor cs b c near far s) where
+  -- from the assignment q drops below b, of p + q
+  repeated : (p q : ℕ) {m : List ℤ} → 1 ≤ p + q → Aparts (p + q) b near c far → Mids p q b m c → Passing floor cs m far (suc p * s)
+  repeated zero zero some a l = absurd (omega arith)
+  repeated zero (suc q) {m = m} some a l =
+      let e = passed some r l in
+      subst (λ (n : ℕ). Passing floor cs m far n) (omega (arith, suc-mul zero s, zero-mul s)) (subst (λ (x : List ℤ). Passing floor cs m x s) (all-end q a (e .mids)) (e .passing))
+  repeated (suc p) q {m = m} some a l =
+      let e = passed some r l in
+      subst (λ (n : ℕ). Passing floor cs m far n) (omega (arith, suc-mul (suc p) s))
+      (joined (e .passing) (repeated p (suc q) (omega arith) (subst (λ (n : ℕ). Aparts n b near c far) (omega arith) a) (furthers p q a (e .mids))))
+
+  -- the jump: t + 1 repetitions
+  pub jump : (t : ℕ) → 1 ≤ t → Aparts t b near c far → Passing floor cs b far ((t + 1) * s)
+  jump t some a =
+      subst (λ (n : ℕ). Passing floor cs b far n) (ap (λ (n : ℕ). n * s) (sym (add-one t)))
+      (repeated t zero (omega arith) (subst (λ (n : ℕ). Aparts n b near c far) (omega arith) a) (starts t a))
