@@ -160,7 +160,7 @@ record Passed (p q : ℕ) (floor : ℤ) (cs : List Clause) (near mid far : List 
   mids : Mids p q near after far
 
 module _ {floor : ℤ} {cs : List Clause} where
-  joined : {a b d : List ℤ} {s k : ℕ} → Passing floor cs a b s → Passing floor cs b d k → Passing floor cs a d (s + k)
+  pub joined : {a b d : List ℤ} {s k : ℕ} → Passing floor cs a b s → Passing floor cs b d k → Passing floor cs a d (s + k)
   joined {a = a} {d = d} {s = s} p start = subst (λ (n : ℕ). Passing floor cs a d n) (omega arith) p
   joined {a = a} {d = d} {s = s} p (round {s = i} {k = k} q w h) = subst (λ (n : ℕ). Passing floor cs a d n) (omega arith) (round (joined p q) w h)
 
@@ -207,7 +207,7 @@ further p q {b = b} {n = n} {c = c} {f = f} {m = m} a h =
         suc-mul q (dn m),
         suc-mul q (up c),
         suc-mul q (dn c),
-      )
+      );
     }
 
 -- wholly at the far end
