@@ -4,7 +4,7 @@ use mathlib.Core.List.{List, [], _∷_, _++_, map}
 use Prim.Native.Nat.{ℕ, zero, suc, _+_, _<_, _≤_}
 use native.Mathlib.Numerals.{add-one}
 use native.Mathlib.Omega.{arith}
-use lib.ListN.{length, set, take, drop, length-set}
+use lib.ListN.{length, set, take, drop, length-set, length-map}
 use lib.Seq.{take-suc-set}
 use lib.IntN.{ℤ}
 use Rattle.walk.specs.Table.{over}
@@ -15,6 +15,7 @@ use Rattle.table.specs.Columns.{ruleOf, rulesFrom, rulesOf}
 use Rattle.bookfile.specs.Reading.{Entry, entries}
 use Rattle.bookfile.specs.Replies.{readOf, readReply, readInto}
 use Rattle.bookfile.specs.Replies as replies
+use Rattle.bookfile.specs.Theorems.{rulesIn}
 use Rattle.bookfile.specs.declared.reading.Counts.{Counts}
 use Rattle.bookfile.specs.declared.reading.Read.the-variants as Read
 use Rattle.bookfile.proofs.Walks.{left-alone, written, read-refused, read-short, read-room}
@@ -90,5 +91,5 @@ module _ (file : List ℕ) (room : ℕ) (out : BookOut) where
               ∙ ap (λ (k : List Rule). k ++ drop (counts .rules) rules) (g .rules ∙ columns-are file e xs ys zs ks) ∙ stored rules ∙ written file room (λ (q : Rule). q) rules q;
         }
       where
-        stored : (rules : List Rule) → map (λ (e : Entry). e .rule) (entries file) ++ drop (counts .rules) rules ≡ replies.over (λ (q : Rule). q) (entries file) rules
-        stored rules = rw (read-rules file e)
+        stored : (rules : List Rule) → rulesIn file ++ drop (counts .rules) rules ≡ replies.over (λ (q : Rule). q) (entries file) rules
+        stored rules = rw (read-rules file e, length-map (entries file) (λ (d : Entry). d .rule))

@@ -1,31 +1,24 @@
 -- The text of a table, by what the bench run answered, and of a file, by what the reader did. Assumes nothing.
 use mathlib.Core.Path.{_≡_, refl, sym, ap, subst, _∙_}
-use mathlib.Core.Bool.{Bool, true, false, cond}
-use mathlib.Core.List.{List, [], _∷_, _++_, map}
-use Prim.Native.Nat.{ℕ, zero, suc, _+_, _<_, _≤_, min}
+use mathlib.Core.List.{List, _∷_}
+use Prim.Native.Nat.{ℕ, zero, suc, _≤_}
 use native.Mathlib.Omega.{arith}
-use lib.Dec.{ltb}
-use lib.ListN.{length, getD, drop, take, replicate, length-append, length-map, List·getD-map, List·getD-append}
+use lib.ListN.{length, take, replicate}
 use lib.IntN.{ℤ, pos}
-use borrow.Author.Tests.{ltb-false}
 use Rattle.maxatom.specs.Book.{Accepted}
 use Rattle.maxatom.specs.declared.Rule.{Rule}
-use Rattle.derivation.specs.Refusals.{Reply, refused, answer, accepts, check, reply, verdict}
+use Rattle.derivation.specs.Refusals.{refused, answer}
 use Rattle.derivation.specs.Run.{planned, fell}
-use Rattle.derivation.specs.Step.{noRule}
-use Rattle.derivation.specs.Calls.{Answer, runReply, runTimes}
-use Rattle.derivation.proofs.Checks.{passed, accepting, neither}
-use Rattle.table.specs.Columns.{ruleOf, rulesOf, Columns}
-use Rattle.table.proofs.Rows.{rows-at, rows-length}
+use Rattle.derivation.specs.Calls.{runReply, runTimes}
+use Rattle.table.specs.Columns.{rulesOf}
 use Rattle.solver.specs.Replies.{solvedReply, Meaning}
 use Rattle.solver.specs.declared.running.Solved.{Solved}
 use Rattle.solver.specs.declared.running.Solved.the-variants as Solve
 use Rattle.solver.proofs.Runs.{answered}
-use Rattle.bookfile.specs.Numbers.{word}
-use Rattle.bookfile.specs.Reading.{Entry, entries, headChecks}
-use Rattle.bookfile.specs.Replies.{counted, roomed, fileReply, readReply, readInto, over, Listed}
+use Rattle.bookfile.specs.Replies.{readReply, readInto}
+use Rattle.bookfile.specs.Theorems.{rulesIn}
 use Rattle.bookfile.specs.declared.reading.Counts.{Counts}
-use Rattle.bookfile.proofs.Walks.{listed, listed-counts}
+use Rattle.bookfile.proofs.Tables.{read-accepted}
 use Rattle.bookfile.proofs.Columns.{read-whole, read-file, columns-are}
 use Rattle.report.specs.Report.{refusedLine, planText, noneText}
 use Rattle.report.specs.Latest.{endText, runText, tableText, readText, reportOf}
@@ -62,12 +55,9 @@ take-zeros {A = A} a (suc n) (suc m) h = ap (λ (l : List A). a ∷ l) (take-zer
 -- a file that was read into a table of 1,024 rules
 module _ (file : List ℕ) {counts : Counts} (e : answer counts ≡ readReply file 1024) where
   pub few-jobs : counts .jobs ≤ 256
-  unfolding headChecks accepts
-  few-jobs =
-      let ok = passed (headChecks file) tt (ap accepts (listed file (read-file file e) .head)) in
-      subst (λ (d : Counts). d .jobs ≤ 256) (sym (listed-counts file (read-file file e))) (ltb-false 256 (word file 2) (neither (ltb (word file 2) 1) (ltb 256 (word file 2)) (ok .1 .1 .1 .1 .0) .1))
+  few-jobs = read-accepted file counts (read-file file e) .0 .few
 
-  report-read : tableText (counts .jobs) (map (λ (e : Entry). e .rule) (entries file)) (replicate (counts .jobs) (pos 0)) ≡ reportOf file
+  report-read : tableText (counts .jobs) (rulesIn file) (replicate (counts .jobs) (pos 0)) ≡ reportOf file
   unfolding reportOf readText
   report-read = rw (read-file file e)
 

@@ -1,5 +1,5 @@
 -- What `latest` prints of a file.
-use mathlib.Core.List.{List, [], _∷_, map}
+use mathlib.Core.List.{List, []}
 use Prim.Native.Nat.{ℕ}
 use lib.IntN.{ℤ, pos}
 use lib.ListN.{replicate}
@@ -7,8 +7,8 @@ use Rattle.maxatom.specs.declared.Rule.{Rule}
 use Rattle.derivation.specs.Refusals.{Reply, refused, answer}
 use Rattle.derivation.specs.Run.{End, planned, fell, unfinished}
 use Rattle.derivation.specs.Calls.{Answer, runReply, runTimes}
-use Rattle.bookfile.specs.Reading.{Entry, entries}
 use Rattle.bookfile.specs.Replies.{fileReply}
+use Rattle.bookfile.specs.Theorems.{rulesIn}
 use Rattle.bookfile.specs.declared.reading.Counts.{Counts}
 use Rattle.report.specs.Report.{refusedLine, planText, noneText}
 
@@ -33,4 +33,4 @@ readText rules (answer counts) = tableText (counts .jobs) rules (replicate (coun
 
 -- a file
 unfoldable pub reportOf : List ℕ → List ℕ
-reportOf file = readText (map (λ (e : Entry). e .rule) (entries file)) (fileReply file)
+reportOf file = readText (rulesIn file) (fileReply file)
