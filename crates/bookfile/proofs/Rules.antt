@@ -21,7 +21,7 @@ use Rattle.bookfile.proofs.Records.{size-bounds}
 
 -- a record that is taken is in the file, and not past the 1,024th
 module _ (jobs : ℕ) (file : List ℕ) (count at : ℕ) {r : Rule} (e : ruleReply jobs file count at ≡ answer r) where
-  passes : Each (λ (c : Check). c .fails ≡ false) (recordChecks jobs file count at)
+  pub passes : Each (λ (c : Check). c .fails ≡ false) (recordChecks jobs file count at)
   unfolding accepts ruleReply
   passes = passed (recordChecks jobs file count at) (ruleAt file at) (ap accepts e)
 

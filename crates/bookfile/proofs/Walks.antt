@@ -71,14 +71,14 @@ pub walked-none : (file : List ℕ) → Listed file → Walked file 4 0
 walked-none file l = record { low = omega arith; few = omega arith; rest = l .all }
 
 -- a rule before others
-record Split (at : ℕ) (said : Reply Rule) (more : Reply (List Entry)) (es : List Entry) : Type 0 where
-  first : Rule
-  others : List Entry
-  says-first : said ≡ answer first
-  says-more : more ≡ answer others
-  is : es ≡ record { at = at; rule = first } ∷ others
+pub record Split (at : ℕ) (said : Reply Rule) (more : Reply (List Entry)) (es : List Entry) : Type 0 where
+  pub first : Rule
+  pub others : List Entry
+  pub says-first : said ≡ answer first
+  pub says-more : more ≡ answer others
+  pub is : es ≡ record { at = at; rule = first } ∷ others
 
-split : (at : ℕ) (said : Reply Rule) (more : Reply (List Entry)) (es : List Entry) → before at said more ≡ answer es → Split at said more es
+pub split : (at : ℕ) (said : Reply Rule) (more : Reply (List Entry)) (es : List Entry) → before at said more ≡ answer es → Split at said more es
 unfolding before
 split at (refused number place) more es e = absurd (let z : _≡_ {A = ℕ} 0 1 = cc in omega arith)
 split at (answer r) (refused number place) es e = absurd (let z : _≡_ {A = ℕ} 0 1 = cc in omega arith)

@@ -1,15 +1,20 @@
 -- What is true of reading and writing.
 use mathlib.Core.Path.{_≡_}
 use mathlib.Core.Logic.{_↔_}
-use mathlib.Core.List.{List, [], _∷_}
+use mathlib.Core.List.{List, [], _∷_, map}
 use Prim.Native.Nat.{ℕ, _+_, _<_, _≤_}
 use lib.ListN.{length, take, drop}
 use lib.IntN.{ℤ}
 use mir.Syntax.{w32}
 use mir.Val.{SFits}
-use Rattle.maxatom.specs.Book.{Each}
+use Rattle.maxatom.specs.Book.{Each, Accepted}
+use Rattle.maxatom.specs.declared.Rule.{Rule}
+use Rattle.derivation.specs.Refusals.{refused, answer}
+use Rattle.derivation.specs.Examples.{exampleB}
+use Rattle.table.specs.Columns as columns
 use Rattle.bookfile.specs.Reading.{Entry, sizeAt, ruleAt, bookReply, entries, recordOf}
-use Rattle.bookfile.specs.Replies.{fileReply}
+use Rattle.bookfile.specs.Replies.{fileReply, over}
+use Rattle.bookfile.specs.declared.reading.Counts.{Counts}
 use Rattle.bookfile.specs.Writing.{planBytes}
 
 -- one buffer of 16,384 bytes is enough to reach any verdict, and has all rules
@@ -33,3 +38,38 @@ pub record TakenFrom (file : List ℕ) (number : ℕ) : Type 0 where
 pub record RecordFacts (file : List ℕ) (number : ℕ) : Type 0 where
   pub empty : (recordOf file number ≡ []) ↔ (length (entries file) ≤ number)
   pub taken : number < length (entries file) → TakenFrom file number
+
+-- the rules of a file
+abbrev pub rulesIn : List ℕ → List Rule
+rulesIn file = map (λ (e : Entry). e .rule) (entries file)
+
+-- a file that is not refused holds a book that the table's checks accept
+abbrev pub ReadAccepted : Type 0
+ReadAccepted =
+    (file : List ℕ) (counts : Counts) → fileReply file ≡ answer counts → Accepted (counts .jobs) (rulesIn file) × (counts .rules ≡ length (rulesIn file))
+
+-- the columns that the reader leaves hold the rules of the file
+abbrev pub ReadColumns : Type 0
+ReadColumns =
+    (file xs ys zs : List ℕ) (ks : List ℤ) →
+    columns.rulesOf (over (λ (r : Rule). r .x) (entries file) xs) (over (λ (r : Rule). r .y) (entries file) ys) (over (λ (r : Rule). r .z) (entries file) zs)
+    (over (λ (r : Rule). r .k) (entries file) ks) (length (rulesIn file))
+    ≡ rulesIn file
+
+-- example B's file, 52 bytes, of document 01
+abbrev pub fileB : List ℕ
+fileB =
+    66 ∷ 75 ∷ 4 ∷ 0
+    ∷ 82 ∷ 85 ∷ 0 ∷ 0 ∷ 0 ∷ 0 ∷ 1 ∷ 0 ∷ 246 ∷ 255 ∷ 255 ∷ 255
+    ∷ 82 ∷ 85 ∷ 3 ∷ 0 ∷ 3 ∷ 0 ∷ 2 ∷ 0 ∷ 0 ∷ 0 ∷ 0 ∷ 0
+    ∷ 82 ∷ 85 ∷ 1 ∷ 0 ∷ 2 ∷ 0 ∷ 3 ∷ 0 ∷ 255 ∷ 255 ∷ 255 ∷ 255
+    ∷ 82 ∷ 85 ∷ 1 ∷ 0 ∷ 0 ∷ 0 ∷ 3 ∷ 0 ∷ 25 ∷ 0 ∷ 0 ∷ 0
+    ∷ []
+
+-- files that document 01 names
+pub record FileExamples : Type 0 where
+  pub counts-b : fileReply fileB ≡ answer (record { jobs = 4; rules = 4 })
+  pub rules-b : rulesIn fileB ≡ exampleB
+  pub first-b : recordOf fileB 0 ≡ 82 ∷ 85 ∷ 0 ∷ 0 ∷ 0 ∷ 0 ∷ 1 ∷ 0 ∷ 246 ∷ 255 ∷ 255 ∷ 255 ∷ []
+  pub cut-mark : fileReply (66 ∷ 75 ∷ 1 ∷ 0 ∷ 82 ∷ []) ≡ refused 1 4
+  pub no-byte : fileReply [] ≡ refused 1 0

@@ -16,7 +16,9 @@ pub fn word(bytes: &[u8], at: usize) -> u16
     requires { ⌜ at + 2 ≤ length (now bytes) ⌝ }
     ensures { λ r. ⌜ r ≡ word (now (bytes .entry)) at ⌝ }
 {
-    wide(bytes[at]) + 256 * wide(bytes[at + 1])
+    let low = wide(bytes[at]);
+    let high = wide(bytes[at + 1]);
+    low + 256 * high
 }
 
 fn wider(w: u16) -> u32
@@ -30,7 +32,9 @@ pub fn long(bytes: &[u8], at: usize) -> u32
     requires { ⌜ at + 4 ≤ length (now bytes) ⌝ }
     ensures { λ r. ⌜ r ≡ long (now (bytes .entry)) at ⌝ }
 {
-    wider(word(bytes, at)) + 65536 * wider(word(bytes, at + 2))
+    let low = wider(word(bytes, at));
+    let high = wider(word(bytes, at + 2));
+    low + 65536 * high
 }
 
 // 16 bits as a number with sign.

@@ -1,4 +1,8 @@
 // The calls on a table by value that was loaded from a caller's: spread into columns, and handed to the solver.
+mod reading;
+
+pub use reading::BookOut;
+pub use reading::read_book;
 ghost use mathlib.Core.Path.{_≡_};
 ghost use Prim.Native.Nat.{ℕ, _+_, _*_, _<_, _≤_, _^_};
 ghost use mathlib.Core.List.{List, map};

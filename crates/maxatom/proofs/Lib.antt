@@ -6,6 +6,7 @@ pub mod Counting
 pub mod Clauses
 pub mod SmallModels
 pub mod Derivations
+pub mod Jumps
 pub mod Rules
 pub mod Plans
 pub mod Classes

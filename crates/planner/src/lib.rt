@@ -8,7 +8,14 @@ ghost use Rattle.walk.specs.Table.{padded, over};
 ghost use Rattle.derivation.specs.Step.{noRule, stepCall};
 ghost use Rattle.derivation.specs.Calls.{keptCall, tightCall};
 ghost use Rattle.solver.specs.Replies.{keptReply, tightReply, steppedReply, stateOf};
+ghost use Rattle.maxatom.specs.declared.Rule.{Rule};
 ghost use Rattle.loaded.specs.Loaded.{SolvedCall};
+ghost use Rattle.bookfile.specs.Replies.{readOf, readReply, readInto};
+pub use bookfile::reading::Counts;
+pub use bookfile::reading::Read;
+pub use bookfile::reading::record;
+pub use bookfile::writing::Written;
+pub use bookfile::writing::write_plan;
 pub use derivation::Refusal;
 pub use derivation::Tally;
 pub use maxatom::Class;
@@ -52,6 +59,30 @@ fn load_any(rules: &[Rule]) -> [Rule; 1024]
         i += 1;
     }
     t
+}
+
+// The first rules of a table by value go into a lent one; the others of that stay.
+fn store(t: [Rule; 1024], count: usize, out: &mut [Rule])
+    requires { ⌜ (count ≤ 1024) × (count ≤ length (now out)) ⌝ }
+    ensures { λ _. ⌜ now (out .exit) ≡ over count t (now (out .entry)) ⌝ }
+{
+    let mut i = 0;
+    while i < count {
+        out[i] = t[i];
+        i += 1;
+    }
+}
+
+// The reader: the job count and the rule count, with the rules in the lent table; or the refusal, with nothing written.
+pub fn read_book(file: &[u8], rules: &mut [Rule]) -> Read
+    ensures { λ r. ⌜ (readOf r ≡ readReply (now (file .entry)) (length (now (rules .entry))))
+        × (now (rules .exit) ≡ readInto (now (file .entry)) (length (now (rules .entry))) (λ (q : Rule). q) (now (rules .entry))) ⌝ }
+{
+    let r = loaded::read_book(file, rules.len());
+    let t = r.table;
+    let c = r.count;
+    store(t, c, rules);
+    r.said
 }
 
 // Kept test: all rules are kept, or the first broken one. Any times.

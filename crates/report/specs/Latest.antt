@@ -8,7 +8,7 @@ use Rattle.derivation.specs.Refusals.{Reply, refused, answer}
 use Rattle.derivation.specs.Run.{End, planned, fell, unfinished}
 use Rattle.derivation.specs.Calls.{Answer, runReply, runTimes}
 use Rattle.bookfile.specs.Reading.{Entry, entries}
-use Rattle.bookfile.specs.Replies.{readReply}
+use Rattle.bookfile.specs.Replies.{fileReply}
 use Rattle.bookfile.specs.declared.reading.Counts.{Counts}
 use Rattle.report.specs.Report.{refusedLine, planText, noneText}
 
@@ -31,6 +31,6 @@ unfoldable pub readText : List Rule → Reply Counts → List ℕ
 readText rules (refused number place) = refusedLine number place
 readText rules (answer counts) = tableText (counts .jobs) rules (replicate (counts .jobs) (pos 0))
 
--- the rules of a file, read into a table of 1,024
+-- a file
 unfoldable pub reportOf : List ℕ → List ℕ
-reportOf file = readText (map (λ (e : Entry). e .rule) (entries file)) (readReply file 1024)
+reportOf file = readText (map (λ (e : Entry). e .rule) (entries file)) (fileReply file)

@@ -26,6 +26,7 @@ use Rattle.derivation.proofs.Passes.{runOn, run-append, after-step, stays-above
 use Rattle.table.specs.Columns.{ruleOf, rulesFrom, rulesOf}
 use Rattle.table.proofs.Rows.{rows-next, rows-end, rows-length, rows-at}
 use Rattle.solver.specs.Replies.{Lowerable, Running, runOf, solvedReply, SolvedAs, Meaning}
+use Rattle.solver.specs.Leaps.{Looping}
 use Rattle.solver.specs.declared.running.PassOut.{PassOut}
 use Rattle.solver.specs.declared.running.Solved.the-variants.{Plan, None, Refused}
 use Rattle.solver.specs.declared.running.Solved.{Solved}
@@ -126,13 +127,6 @@ module _ {xs ys zs : List ℕ} {ks : List ℤ} {count : ℕ} {b₀ : List ℤ} {
   pub going-all : count ≤ i → pass (floor rules) rules b₀ s₀ ≡ record { times = b; steps = s; end = unfinished }
   unfolding pass
   going-all h = g .rest ∙ ap (λ (rs : List Rule). pass (floor rules) rs b s) (rows-end xs ys zs ks i count h)
-
--- the run has come to times b after s steps
-pub record Looping (jobs : ℕ) (rules : List Rule) (b : List ℤ) (s : ℕ) : Type 0 where
-  pub running : Running jobs rules b s
-  pub fuel : ℕ
-  pub enough : passBound jobs rules ≤ fuel + s
-  pub is : solve jobs rules ≡ passes fuel (floor rules) rules b s
 
 pub looping-none : {jobs : ℕ} {rules : List Rule} → Accepted jobs rules → Looping jobs rules (replicate jobs (pos 0)) 0
 unfolding solve play endState

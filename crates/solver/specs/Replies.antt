@@ -34,6 +34,11 @@ pub record Named (r : Rule) (jobs : ℕ) : Type 0 where
   pub second : r .y < jobs
   pub third : r .z < jobs
 
+-- and those of every rule, at two assignments
+pub record NamedAll (rules : List Rule) (near far : ℕ) : Type 0 where
+  pub in-near : (i : ℕ) → i < length rules → Named (ruleAt rules i) near
+  pub in-far : (i : ℕ) → i < length rules → Named (ruleAt rules i) far
+
 -- kept test
 unfoldable pub keptReply : FirstViolated → Reply Kept
 keptReply Violated.Nothing = answer all

@@ -1,4 +1,5 @@
 mod board;
+mod leaping;
 mod rule;
 mod running;
 mod stepping;

@@ -8,7 +8,9 @@ ghost use Rattle.derivation.specs.Run.{pass, solve};
 ghost use Rattle.derivation.specs.Calls.{runReply, runTimes};
 ghost use Rattle.table.specs.Columns.{rulesOf, Columns};
 ghost use Rattle.solver.specs.Replies.{runOf, Running, solvedReply, SolvedAs, Meaning};
+ghost use Rattle.solver.specs.Leaps.{Sized, Looping};
 use crate::board::clear;
+use crate::leaping::watch;
 use crate::rule::is_satisfied;
 use crate::stepping::lower;
 use derivation::Refusal;
@@ -75,6 +77,103 @@ pub enum Solved {
     Refused(Refusal),
 }
 
+// The rest of a run that is long: each pass is watched, and passes that repeat are taken at once.
+fn finish(
+    xs: &[u16],
+    ys: &[u16],
+    zs: &[u16],
+    ks: &[i32],
+    count: usize,
+    f: i32,
+    steps: u64,
+    marks: &mut [u32],
+    last: &mut [i32],
+    drops: &mut [u32],
+    near: &mut [i32],
+    far: &mut [i32],
+    times: &mut [i32],
+) -> Solved
+    requires { ⌜ Columns (now xs) (now ys) (now zs) (now ks) count ⌝ }
+    requires { ⌜ Looping (length (now times)) (rulesOf (now xs) (now ys) (now zs) (now ks) count) (now times) steps ⌝ }
+    requires { ⌜ f ≡ floor (rulesOf (now xs) (now ys) (now zs) (now ks) count) ⌝ }
+    requires { ⌜ length (now last) ≡ length (now times) ⌝ }
+    requires { ⌜ Sized (length (now times)) (now drops) (now near) (now far) ⌝ }
+    ensures { λ r. ⌜ SolvedAs (solve (length (now (times .entry))) (rulesOf (now (xs .entry)) (now (ys .entry)) (now (zs .entry)) (now (ks .entry)) count)) r (now (times .exit)) ⌝ }
+{
+    let mut s = steps;
+    let mut seen: usize = 0;
+    let mut look: usize = 16;
+    loop {
+        let p = pass(xs, ys, zs, ks, count, f, times, s);
+        let fell = p.fell;
+        let made = p.steps;
+        if fell {
+            return Solved::None(made, p.job);
+        }
+        if made == s {
+            return Solved::Plan(made);
+        }
+        let w = watch(
+            xs,
+            ys,
+            zs,
+            ks,
+            count,
+            f,
+            seen,
+            look,
+            marks,
+            last,
+            drops,
+            near,
+            far,
+            times,
+        );
+        s = made + w.steps;
+        seen = w.seen;
+        look = w.look;
+    }
+}
+
+// Lends the room that watching takes.
+fn finish_long(
+    xs: &[u16],
+    ys: &[u16],
+    zs: &[u16],
+    ks: &[i32],
+    count: usize,
+    f: i32,
+    steps: u64,
+    times: &mut [i32],
+) -> Solved
+    requires { ⌜ Columns (now xs) (now ys) (now zs) (now ks) count ⌝ }
+    requires { ⌜ Looping (length (now times)) (rulesOf (now xs) (now ys) (now zs) (now ks) count) (now times) steps ⌝ }
+    requires { ⌜ f ≡ floor (rulesOf (now xs) (now ys) (now zs) (now ks) count) ⌝ }
+    ensures { λ r. ⌜ SolvedAs (solve (length (now (times .entry))) (rulesOf (now (xs .entry)) (now (ys .entry)) (now (zs .entry)) (now (ks .entry)) count)) r (now (times .exit)) ⌝ }
+{
+    let n = times.len();
+    let mut marks: [u32; 16384] = [0; 16384];
+    let mut last: [i32; 256] = [0; 256];
+    let mut drops: [u32; 256] = [0; 256];
+    let mut near: [i32; 256] = [0; 256];
+    let mut far: [i32; 256] = [0; 256];
+    finish(
+        xs,
+        ys,
+        zs,
+        ks,
+        count,
+        f,
+        steps,
+        &mut marks[..],
+        &mut last[..n],
+        &mut drops[..n],
+        &mut near[..n],
+        &mut far[..n],
+        times,
+    )
+}
+
 fn solve_checked(
     xs: &[u16],
     ys: &[u16],
@@ -90,7 +189,8 @@ fn solve_checked(
     let f = floor(total(xs, ys, zs, ks, count));
     clear(times);
     let mut s: u64 = 0;
-    loop {
+    let mut i: usize = 0;
+    while i < 64 {
         let p = pass(xs, ys, zs, ks, count, f, times, s);
         let fell = p.fell;
         let steps = p.steps;
@@ -101,7 +201,9 @@ fn solve_checked(
             return Solved::Plan(steps);
         }
         s = steps;
+        i += 1;
     }
+    finish_long(xs, ys, zs, ks, count, f, s, times)
 }
 
 // The bench run: the plan, or none, on any arguments. The lent times hold the assignment as it stood at the end.

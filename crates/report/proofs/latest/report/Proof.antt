@@ -8,7 +8,8 @@ use lib.Seq.{length-take-le}
 use denote.Ref.{now}
 use Rattle.derivation.specs.Refusals.{answer, refused}
 use Rattle.bookfile.specs.Replies.{readOf, readReply}
-use Rattle.report.proofs.Reports.{few-jobs, column-long, report-table, report-refused}
+use Rattle.bookfile.proofs.Columns.{column-long}
+use Rattle.report.proofs.Reports.{few-jobs, report-table, report-refused}
 use Rattle.report.proofs.latest.report.Statement.{statement}
 use Rattle.report.proofs.latest.report.Tie as tie
 

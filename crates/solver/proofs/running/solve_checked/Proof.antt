@@ -11,19 +11,20 @@ use mir.Val.{toZ, ofZ}
 use mir.Facts.{toZ-ofZ}
 use Rattle.maxatom.specs.Book.{floor}
 use Rattle.maxatom.specs.declared.Rule.{Rule}
-use Rattle.derivation.specs.Run.{passBound, pass}
+use Rattle.derivation.specs.Run.{pass}
 use Rattle.table.specs.Columns.{rulesOf}
 use Rattle.solver.specs.Replies.{runOf}
+use Rattle.solver.specs.Leaps.{Looping}
 use Rattle.solver.proofs.Steps.{small-of, total-bound}
-use Rattle.solver.proofs.Runs.{size-of, Looping, looping-none, solved-fell, solved-still, solved-next, solved-less}
+use Rattle.solver.proofs.Runs.{size-of, looping-none, solved-fell, solved-still, solved-next}
 use Rattle.solver.proofs.running.solve_checked.Statement.{statement}
 use Rattle.solver.proofs.running.solve_checked.Tie as tie
 
 abbrev Inv-loop : tie.InvT-loop
-Inv-loop xs ys zs ks count times₀ f s₀ times s = Looping (length times₀) (rulesOf xs ys zs ks count) times s
+Inv-loop xs ys zs ks count times₀ f s₀ i₀ times s i = Looping (length times₀) (rulesOf xs ys zs ks count) times s
 
 abbrev μ-loop : tie.MeasureT-loop
-μ-loop xs ys zs ks count times₀ f s₀ times s = passBound (length times₀) (rulesOf xs ys zs ks count) - s
+μ-loop xs ys zs ks count times₀ f s₀ i₀ times s i = 64 - i
 
 abbrev start : tie.After-floor Inv-loop μ-loop → tie.Start Inv-loop μ-loop
 start c = c .before .before .before .before .before
@@ -39,21 +40,27 @@ floor-at l = l .before .before .before .before
 
 pass-requires : tie.Need-pass-requires Inv-loop μ-loop
 pass-requires c κs =
-    let l = c .before in
+    let l = c .before .before in
     let p = l .loop .inv .running in
     (start (floor-at l) .pre .0, (rw (size-of p) p, floor-is (floor-at l)))
 
+abbrev at : tie.After-pass Inv-loop μ-loop → tie.At-loop Inv-loop μ-loop
+at c = c .before .before .before
+
 -- what the pass made, and that the times are as many as they were
 said : (c : tie.After-pass Inv-loop μ-loop) →
-    let l = c .before .before in
+    let l = at c in
     runOf (c .pass .result) (c .pass .last .1 .1 .1 .1 .1 .1 .0) ≡ pass (floor (rules (start (floor-at l)))) (rules (start (floor-at l))) (l .loop .times) (l .loop .s)
-said c = rw (floor-is (floor-at (c .before .before))) at (c .pass .ensures)
+said c = rw (floor-is (floor-at (at c))) at (c .pass .ensures)
 
 cleared : (l : tie.At-loop Inv-loop μ-loop) → length (l .before .before .clear .last .0) ≡ length (now (start (floor-at l) .args .times))
 cleared l = ap length (l .before .before .clear .ensures) ∙ length-replicate _ (pos 0)
 
-size : (c : tie.After-pass Inv-loop μ-loop) → length (c .pass .last .1 .1 .1 .1 .1 .1 .0) ≡ length (now (start (floor-at (c .before .before)) .args .times))
-size c = c .pass .kept .1 .1 .1 .1 .1 .1 .0 ∙ (size-of (c .before .before .loop .inv .running) ∙ cleared (c .before .before))
+size-at : (l : tie.At-loop Inv-loop μ-loop) → length (l .loop .times) ≡ length (now (start (floor-at l) .args .times))
+size-at l = size-of (l .loop .inv .running) ∙ cleared l
+
+size : (c : tie.After-pass Inv-loop μ-loop) → length (c .pass .last .1 .1 .1 .1 .1 .1 .0) ≡ length (now (start (floor-at (at c)) .args .times))
+size c = c .pass .kept .1 .1 .1 .1 .1 .1 .0 ∙ size-at (at c)
 
 pub solve-checked-spec : {M : Type 1} → statement M
 solve-checked-spec =
@@ -68,14 +75,18 @@ solve-checked-spec =
     pass-requires
     (λ c. size (c .before .before))
     (λ c. let d = c .before .before in
-    rw (cleared (d .before .before)) at (solved-fell (d .before .before .loop .inv) _ _ (said d) (c .if1 .taken)))
+    rw (cleared (at d)) at (solved-fell (at d .loop .inv) _ _ (said d) (c .if1 .taken)))
     (λ c. size (c .before .before .before))
     (λ c. let e = c .before in
     let d = e .before .before in
-    rw (cleared (d .before .before)) at (solved-still (d .before .before .loop .inv) _ _ (said d) (e .if1 .left) (c .if2 .taken)))
+    rw (cleared (at d)) at (solved-still (at d .loop .inv) _ _ (said d) (e .if1 .left) (c .if2 .taken)))
+    (λ c. search needs)
+    (λ c. search needs)
     (λ c. let e = c .before in
     let d = e .before .before in
-    solved-less (d .before .before .loop .inv) _ _ (said d) (e .if1 .left) (c .if2 .left))
-    (λ c. let e = c .before in
-    let d = e .before .before in
-    solved-next (d .before .before .loop .inv) _ _ (said d) (e .if1 .left) (c .if2 .left)))
+    solved-next (at d .loop .inv) _ _ (said d) (e .if1 .left) (c .if2 .left))
+    (λ c κs. let l = c .before .before in
+    let v = l .loop .inv in
+    (start (floor-at l) .pre .0, (rw (size-of (v .running)) v, floor-is (floor-at l))))
+    (λ c. c .before .finish-long .kept .1 .1 .1 .1 .1 .1 .1 .0 ∙ size-at (c .before .before .before .before))
+    (λ c. rw (size-at (c .before .before .before .before)) at (c .before .finish-long .ensures)))
