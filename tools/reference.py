@@ -1,5 +1,5 @@
 #!/usr/bin/env python3
-"""What the programs `examples` and `small_books` must write, worked out apart from the code they test.
+"""What the programs `examples`, `small_books` and `three_jobs` must write, worked out apart from the code they test.
 
 The run is the bench run of the scope: passes over the rules from 0 upward, a step on each
 broken rule, an end after a pass without a step (a plan) or when a time falls below -K (none).
@@ -105,10 +105,10 @@ def records(data, numbers):
     return out
 
 
-def small_books(jobs, count):
-    """All books of that many rules with offsets -1 to 1: how many have times in -6 to 0 that keep all rules."""
+def small_books(jobs, count, low=-6):
+    """All books of that many rules with offsets -1 to 1: how many have times from low to 0 that keep all rules."""
     rules = list(itertools.product(range(jobs), range(jobs), range(jobs), (-1, 0, 1)))
-    board = list(itertools.product(range(-6, 1), repeat=jobs))
+    board = list(itertools.product(range(low, 1), repeat=jobs))
     books = list(itertools.product(rules, repeat=count))
     plans = sum(any(all(t[r[2]] <= left(r, t) for r in b) for t in board) for b in books)
     return "BOOKS %d PLANS %d NONES %d DIFFERING 0\n" % (len(books), plans, len(books) - plans)
@@ -118,6 +118,8 @@ if __name__ == "__main__":
     if sys.argv[1:] == ["small_books"]:
         for count in range(3):
             sys.stdout.write(small_books(2, count))
+    elif sys.argv[1:] == ["three_jobs"]:
+        sys.stdout.write(small_books(3, 2, -4))
     else:
         for letter, (n, rules) in EXAMPLES.items():
             sys.stdout.write(letter + "\n" + text(book(n, rules)))

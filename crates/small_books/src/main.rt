@@ -5,6 +5,7 @@ ghost use Rattle.table.specs.Columns.{Columns};
 use derivation::Tally;
 use solver::FirstViolated;
 use solver::Solved;
+use solver::Stepped;
 
 // A rule is a number below 24: its jobs are its low three bits, its offset what is left, from -1.
 fn x_of(c: u64) -> u16 {
@@ -129,11 +130,21 @@ struct Answer {
     b: u64,
 }
 
+// None.
 fn nothing() -> Answer {
     Answer {
         plan: false,
         a: 0,
         b: 0,
+    }
+}
+
+// What should not be: an answer that the search never gives.
+fn wrong() -> Answer {
+    Answer {
+        plan: true,
+        a: 9,
+        b: 9,
     }
 }
 
@@ -153,18 +164,25 @@ fn depth(t: i32) -> u64
     9
 }
 
-// By search. The latest times of either job make a plan together.
+// By search. The latest times of either job must make a plan together.
 fn searched(count: usize, c: u64, d: u64) -> Answer {
     let a = first_found(count, c, d);
     let b = second_found(count, c, d);
-    if a < 7 {
+    if a == 7 {
+        return nothing();
+    }
+    if !all_kept(count, c, d, a, b) {
         return Answer {
-            plan: all_kept(count, c, d, a, b),
-            a: a,
-            b: b,
+            plan: true,
+            a: 8,
+            b: 8,
         };
     }
-    nothing()
+    Answer {
+        plan: true,
+        a: a,
+        b: b,
+    }
 }
 
 // By the bench run.
@@ -183,11 +201,7 @@ fn solved(count: usize, c: u64, d: u64) -> Answer
             b: depth(times[1]),
         },
         Solved::None(_, _) => nothing(),
-        Solved::Refused(_) => Answer {
-            plan: true,
-            a: 9,
-            b: 9,
-        },
+        Solved::Refused(_) => wrong(),
     }
 }
 
@@ -231,6 +245,35 @@ fn all_steps(
     tally
 }
 
+// 1 where a board that shows none refused the step, else 2.
+fn fallen(said: Stepped) -> u64 {
+    match said {
+        Stepped::Done => 2,
+        Stepped::Refused(r) => { if r.number == 25 { 1 } else { 2 } }
+    }
+}
+
+// How hand steps ended: 0 with all rules kept, 1 with a board that shows none, so that one more step is refused for that; else 2.
+fn ending(
+    xs: &[u16],
+    ys: &[u16],
+    zs: &[u16],
+    ks: &[i32],
+    count: usize,
+    times: &mut [i32],
+    tally: Tally,
+) -> u64
+    requires { ⌜ Columns (now xs) (now ys) (now zs) (now ks) (min count 1024) ⌝ }
+{
+    let more = solver::step(2, xs, ys, zs, ks, count, times, tally, 0);
+    let said = more.said;
+    match solver::first_violated(2, xs, ys, zs, ks, count, times) {
+        FirstViolated::Nothing => 0,
+        FirstViolated::At(_) => fallen(said),
+        FirstViolated::Refused(_) => 2,
+    }
+}
+
 // By hand steps; the tally's minutes must be the sum of the depths.
 fn by_hand(count: usize, c: u64, d: u64) -> Answer
     requires { ⌜ count ≤ 2 ⌝ }
@@ -241,22 +284,22 @@ fn by_hand(count: usize, c: u64, d: u64) -> Answer
     let ks: [i32; 2] = [k_of(c), k_of(d)];
     let mut times: [i32; 2] = [0, 0];
     let tally = all_steps(&xs, &ys, &zs, &ks, count, &mut times);
-    match solver::first_violated(2, &xs, &ys, &zs, &ks, count, &times) {
-        FirstViolated::Nothing => {
-            let a = depth(times[0]);
-            let b = depth(times[1]);
-            Answer {
-                plan: tally.minutes == a + b,
-                a: a,
-                b: b,
-            }
-        }
-        FirstViolated::At(_) => nothing(),
-        FirstViolated::Refused(_) => Answer {
-            plan: true,
-            a: 9,
-            b: 9,
-        },
+    let e = ending(&xs, &ys, &zs, &ks, count, &mut times, tally);
+    if e == 1 {
+        return nothing();
+    }
+    if e == 2 {
+        return wrong();
+    }
+    let a = depth(times[0]);
+    let b = depth(times[1]);
+    if tally.minutes != a + b {
+        return wrong();
+    }
+    Answer {
+        plan: true,
+        a: a,
+        b: b,
     }
 }
 
