@@ -1,20 +1,18 @@
 -- The first 16,384 bytes of a file reach its verdict. Assumes nothing.
-use mathlib.Core.Path.{_≡_, refl, sym, ap, _∙_}
-use mathlib.Core.Bool.{Bool, true, false, cond}
-use mathlib.Core.List.{List, [], _∷_}
+use mathlib.Core.Path.{_≡_, refl, ap, _∙_}
+use mathlib.Core.List.{List}
 use Prim.Native.Nat.{ℕ, zero, suc, _+_, _*_, _<_, _≤_, min}
 use native.Mathlib.Nat.{min-eq-left, min-eq-right}
 use native.Mathlib.Decide.{decLt}
 use native.Mathlib.Omega.{arith}
-use borrow.Author.Tests.{lt-ltb, le-ltb, le-leb, lt-leb}
+use borrow.Author.Tests.{le-ltb, lt-leb}
 use lib.Dec.{ltb, leb}
-use lib.ListN.{length, take, drop, getD, length-take}
+use lib.ListN.{length, take, length-take}
 use lib.Seq.{getD-take}
-use Rattle.maxatom.specs.declared.Rule.{Rule}
-use Rattle.derivation.specs.Refusals.{Reply, reply, verdict}
+use Rattle.derivation.specs.Refusals.{verdict}
 use Rattle.bookfile.specs.Numbers.{word, long, signed16, signed32}
-use Rattle.bookfile.specs.Reading.{sizeAt, hoursAt, minutesAt, offsetAt, ruleAt, outsideAt, recordChecks, ruleReply, headChecks, Entry, before, rulesFrom, rulesOf, after, bookReply}
-use Rattle.bookfile.specs.Replies.{counted, fileReply}
+use Rattle.bookfile.specs.Reading.{sizeAt, hoursAt, minutesAt, offsetAt, ruleAt, outsideAt, recordChecks, ruleReply, headChecks, rulesFrom, bookReply}
+use Rattle.bookfile.specs.Replies.{fileReply}
 use Rattle.bookfile.specs.Theorems.{FirstBytes}
 use Rattle.bookfile.proofs.Records.{size-bounds}
 

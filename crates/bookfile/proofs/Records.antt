@@ -1,13 +1,13 @@
 -- Records of a book's file. Assumes nothing.
-use mathlib.Core.Path.{_≡_, refl, sym, ap, _∙_}
+use mathlib.Core.Path.{_≡_, refl, sym, _∙_}
 use mathlib.Core.Bool.{Bool, true, false, cond, not, _||_}
 use mathlib.Core.List.{List, [], _∷_}
-use Prim.Native.Nat.{ℕ, suc, _+_, _*_, _<_, _≤_}
+use Prim.Native.Nat.{ℕ, _+_, _<_, _≤_}
 use native.Mathlib.Omega.{arith}
 use borrow.Author.Tests.{eq-eqb, ne-eqb, lt-ltb, le-ltb}
 use lib.Dec.{eqb, leb, ltb}
 use lib.ListN.{length}
-use lib.IntN.{ℤ, pos, _*ℤ_}
+use lib.IntN.{pos, _*ℤ_}
 use Rattle.maxatom.specs.declared.Rule.{Rule}
 use Rattle.maxatom.proofs.Choose.{cond-yes, cond-no}
 use Rattle.derivation.specs.Refusals.{Reply, refused, answer, Check, check, reply, verdict, jobsCheck, jobOutside, offsetOutside}

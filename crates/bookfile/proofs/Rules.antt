@@ -1,23 +1,19 @@
 -- The rules of a book's file, record by record. Assumes nothing.
-use mathlib.Core.Path.{_≡_, refl, sym, ap, subst, _∙_}
-use mathlib.Core.Bool.{Bool, true, false, cond, not}
-use mathlib.Core.List.{List, [], _∷_}
-use Prim.Native.Nat.{ℕ, zero, suc, _+_, _-_, _*_, _<_, _≤_}
-use native.Mathlib.Numerals.{add-one}
+use mathlib.Core.Path.{_≡_, refl, sym, ap, _∙_}
+use mathlib.Core.Bool.{false, not}
+use mathlib.Core.List.{List, []}
+use Prim.Native.Nat.{ℕ, zero, suc, _+_, _-_, _<_, _≤_}
 use native.Mathlib.Omega.{arith}
-use borrow.Author.Tests.{eq-eqb, ne-eqb, lt-ltb, le-ltb, le-leb, lt-leb, ltb-false, leb-false}
-use lib.Dec.{eqb, leb, ltb}
+use borrow.Author.Tests.{le-leb, lt-leb, ltb-false, leb-false}
 use lib.ListN.{length}
 use Rattle.maxatom.specs.Book.{Each}
 use Rattle.maxatom.specs.declared.Rule.{Rule}
 use Rattle.maxatom.proofs.Choose.{cond-yes, cond-no}
-use Rattle.derivation.specs.Refusals.{Reply, refused, answer, accepts, Check, check, reply, verdict}
-use Rattle.derivation.proofs.Checks.{says, skips, passed, accepting}
-use Rattle.bookfile.specs.Numbers.{word}
+use Rattle.derivation.specs.Refusals.{Reply, refused, answer, accepts, Check}
+use Rattle.derivation.proofs.Checks.{passed, accepting}
 use Rattle.bookfile.specs.Reading.{sizeAt, ruleAt, recordChecks, ruleReply, Entry, before, rulesFrom}
 use Rattle.bookfile.specs.Replies.{counted}
 use Rattle.bookfile.specs.declared.reading.Counts.{Counts}
-use Rattle.bookfile.proofs.Records.{size-bounds}
 
 -- a record that is taken is in the file, and not past the 1,024th
 module _ (jobs : ℕ) (file : List ℕ) (count at : ℕ) {r : Rule} (e : ruleReply jobs file count at ≡ answer r) where

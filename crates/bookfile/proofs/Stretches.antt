@@ -1,8 +1,7 @@
 -- A rule's record has the bytes from which the reader took the rule. Assumes nothing.
 use mathlib.Core.Path.{_≡_, refl, sym, ap, subst, _∙_}
-use mathlib.Core.Logic.{_↔_}
-use mathlib.Core.List.{List, [], _∷_}
-use Prim.Native.Nat.{ℕ, zero, suc, _+_, _*_, _<_, _≤_, min}
+use mathlib.Core.List.{List, []}
+use Prim.Native.Nat.{ℕ, zero, suc, _+_, _<_, _≤_}
 use native.Mathlib.Decide.{decLt, ℕ-discrete}
 use native.Mathlib.Nat.{min-eq-left}
 use native.Mathlib.Numerals.{add-one}
@@ -13,7 +12,7 @@ use lib.IntN.{pos, _*ℤ_}
 use Rattle.derivation.specs.Refusals.{Reply, refused, answer, verdict}
 use Rattle.bookfile.specs.Numbers.{word, long, signed16, signed32}
 use Rattle.bookfile.specs.Reading.{HR, sizeAt, ruleAt, offsetAt, headChecks, Entry, rulesOf, after, bookReply, entriesOf, entries, recordOf}
-use Rattle.bookfile.specs.Replies.{Listed, Begins}
+use Rattle.bookfile.specs.Replies.{Listed}
 use Rattle.bookfile.specs.Theorems.{TakenFrom, RecordFacts}
 use Rattle.bookfile.proofs.Records.{size-bounds, size-hours, size-minutes, offset-hours, offset-minutes}
 use Rattle.bookfile.proofs.Walks.{Walked, walked-none, walked-next, walked-begins, record-none, record-here}

@@ -1,27 +1,26 @@
 -- The rules that the reader leaves in the columns are the file's, and the table's checks pass them. Assumes nothing.
-use mathlib.Core.Path.{_≡_, refl, sym, ap, subst, _∙_}
+use mathlib.Core.Path.{_≡_, refl, sym, ap, _∙_}
 use mathlib.Core.Bool.{Bool, true, false, cond}
 use mathlib.Core.List.{List, [], _∷_, _++_, map}
-use Prim.Native.Nat.{ℕ, zero, suc, _+_, _-_, _*_, _<_, _≤_}
+use Prim.Native.Nat.{ℕ, zero, suc, _+_, _≤_}
 use native.Mathlib.Omega.{arith}
 use borrow.Author.Tests.{le-ltb}
-use lib.Dec.{leb, ltb}
+use lib.Dec.{leb}
 use lib.ListN.{length, drop, getD, length-map}
 use lib.Seq.{getD-drop, drop-drop}
 use lib.IntN.{ℤ, pos}
-use Rattle.maxatom.specs.Book.{Each, Accepted}
+use Rattle.maxatom.specs.Book.{Each}
 use Rattle.maxatom.specs.declared.Rule.{Rule}
-use Rattle.derivation.specs.Refusals.{Reply, refused, answer, accepts, Check, reply, verdict, jobsCheck, jobOutside, offsetOutside, ruleChecks, tableChecks}
+use Rattle.derivation.specs.Refusals.{answer, accepts, Check, ruleChecks, tableChecks}
 use Rattle.derivation.proofs.Checks.{passed, accepting, accepted-iff}
 use Rattle.table.specs.Columns as columns
 use Rattle.bookfile.specs.Numbers.{word}
-use Rattle.bookfile.specs.Reading.{sizeAt, ruleAt, outsideAt, recordChecks, ruleReply, headChecks, Entry, before, rulesFrom, entries}
-use Rattle.bookfile.specs.Replies.{fileReply, over}
+use Rattle.bookfile.specs.Reading.{sizeAt, recordChecks, ruleReply, headChecks, Entry, before, rulesFrom, entries}
+use Rattle.bookfile.specs.Replies.{over}
 use Rattle.bookfile.specs.Theorems.{rulesIn, ReadAccepted, ReadColumns}
-use Rattle.bookfile.specs.declared.reading.Counts.{Counts}
 use Rattle.bookfile.proofs.Records.{outside-same}
 use Rattle.bookfile.proofs.Rules.{passes, rule-is, not-full}
-use Rattle.bookfile.proofs.Walks.{Split, split, listed, listed-counts}
+use Rattle.bookfile.proofs.Walks.{split, listed, listed-counts}
 
 abbrev Passed : Check → Type 0
 Passed c = c .fails ≡ false

@@ -1,12 +1,12 @@
 -- The rules of a file that is not refused, walked one by one. Assumes nothing.
-use mathlib.Core.Path.{_≡_, refl, sym, ap, subst, _∙_}
+use mathlib.Core.Path.{_≡_, refl, sym, ap, _∙_}
 use mathlib.Core.List.{List, [], _∷_, _++_, map, append-assoc}
-use Prim.Native.Nat.{ℕ, zero, suc, _+_, _-_, _*_, _<_, _≤_}
+use Prim.Native.Nat.{ℕ, zero, suc, _+_, _-_, _<_, _≤_}
 use native.Mathlib.Numerals.{add-one}
 use native.Mathlib.Omega.{arith}
 use native.Mathlib.Decide.{decLt}
 use borrow.Author.Tests.{ltb-false, lt-ltb, le-ltb}
-use lib.ListN.{length, take, drop, set, length-drop, length-append, length-map, length-set, drop-of-length-le}
+use lib.ListN.{length, take, drop, set, length-drop, length-append, length-map, drop-of-length-le}
 use lib.Seq.{drop-drop, set-split, take-at, drop-at, length-take-le, take-length}
 use lib.IntN.{ℤ}
 use Rattle.maxatom.specs.declared.Rule.{Rule}

@@ -1,11 +1,11 @@
 -- Numbers in bytes: which integers they are. Assumes nothing.
-use mathlib.Core.Path.{_≡_, refl, sym, ap, _∙_}
-use mathlib.Core.Logic.{_⊎_, inl, inr, ⊎-elim}
-use mathlib.Core.Bool.{Bool, true, false, _||_}
+use mathlib.Core.Path.{_≡_, refl, sym, ap}
+use mathlib.Core.Logic.{⊎-elim}
+use mathlib.Core.Bool.{Bool, true, false}
 use Prim.Native.Nat.{ℕ, suc, _+_, _*_, _<_, _≤_, _^_}
 use native.Mathlib.Omega.{arith}
 use borrow.Author.Tests.{lt-ltb, le-ltb}
-use lib.Dec.{T, ltb}
+use lib.Dec.{T}
 use lib.IntN.{ℤ, pos, negsuc, negℤ, natAbs, _+ℤ_, _-ℤ_, _*ℤ_, pos-*ℤ-pos, pos-*ℤ-negsuc}
 use native.Mathlib.Decide.{decLt}
 use lib.Signed.{ltZ, nonNeg, _<ℤ_, _≤ℤ_}
@@ -13,7 +13,7 @@ use mir.Syntax.{Width, w32, w64}
 use mir.Val.{SFits, hbits}
 use Rattle.maxatom.specs.Book.{minus}
 use Rattle.maxatom.proofs.Choose.{cond-yes, cond-no}
-use Rattle.maxatom.proofs.Integers.{up, dn, add-parts, add-bounds, neg-parts, one-part, eq-make, abs-parts, minus-parts, le-make, le-read, lt-make, lt-read, true-lt, lt-true, false-lt, lt-false}
+use Rattle.maxatom.proofs.Integers.{up, dn, add-parts, add-bounds, neg-parts, one-part, abs-parts, minus-parts, le-make, le-read, lt-make, lt-read, true-lt, lt-true, false-lt, lt-false}
 use Rattle.table.proofs.Signed.{fits-make, fits-read, not-negative}
 use Rattle.bookfile.specs.Numbers.{signed, unsigned32}
 use Rattle.bookfile.specs.Reading.{beyond}

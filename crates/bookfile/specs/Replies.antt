@@ -1,6 +1,6 @@
 -- The replies of the calls, as document 01 puts them.
 use mathlib.Core.Path.{_≡_}
-use mathlib.Core.Bool.{Bool, cond, not, _||_}
+use mathlib.Core.Bool.{cond, not}
 use mathlib.Core.List.{List, [], _∷_, _++_, map}
 use Prim.Native.Nat.{ℕ, _+_, _≤_, min}
 use lib.Dec.{eqb, leb, ltb}

@@ -1,4 +1,4 @@
 // The book file: the reader, a rule's record, the plan writer.
-pub mod bytes;
+mod bytes;
 pub mod reading;
 pub mod writing;

@@ -1,6 +1,6 @@
 // The reader.
 ghost use mathlib.Core.Path.{_≡_};
-ghost use Prim.Native.Nat.{ℕ, _+_, _<_, _≤_, min};
+ghost use Prim.Native.Nat.{_+_, _<_, _≤_, min};
 ghost use lib.ListN.{length};
 ghost use Rattle.derivation.specs.Refusals.{refused, verdict};
 ghost use Rattle.maxatom.specs.declared.Rule.{Rule};

@@ -1,7 +1,7 @@
 // The plan writer.
 ghost use mathlib.Core.Path.{_≡_};
 ghost use mathlib.Core.List.{_++_};
-ghost use Prim.Native.Nat.{ℕ, _+_, _*_, _≤_};
+ghost use Prim.Native.Nat.{_+_, _*_, _≤_};
 ghost use lib.ListN.{length, drop};
 ghost use Rattle.derivation.specs.Refusals.{verdict};
 ghost use Rattle.bookfile.specs.Numbers.{unsigned32};

@@ -1,5 +1,5 @@
 // Files and plans at and past each limit of document 01, one line a case: what the reader and the plan writer answer.
-ghost use Prim.Native.Nat.{ℕ, _<_, _≤_};
+ghost use Prim.Native.Nat.{_<_, _≤_};
 use bookfile::reading::Read;
 use bookfile::reading::read_book;
 use bookfile::writing::Written;

@@ -1,9 +1,7 @@
 use borrow.Author.Needs.{needs}
-use mathlib.Core.Path.{_≡_, sym}
 use native.Mathlib.Omega.{arith}
-use lib.IntN.{pos, _-ℤ_}
+use lib.IntN.{pos}
 use mir.Syntax.{w32, w64}
-use mir.Val.{SFits, toZ}
 use mir.Facts.{toZ-pos, toZ-ofZ}
 use Rattle.table.proofs.Signed.{sub-fits}
 use Rattle.bookfile.proofs.Words.{signed-low, signed-high, high-fits}

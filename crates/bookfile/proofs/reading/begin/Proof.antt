@@ -1,10 +1,10 @@
 use borrow.Author.Needs.{needs}
-use mathlib.Core.Path.{_≡_, sym, ap, subst, _∙_}
-use Prim.Native.Nat.{ℕ, _+_, _-_, _≤_, _<_}
+use mathlib.Core.Path.{_≡_, subst}
+use Prim.Native.Nat.{ℕ, _+_, _-_, _≤_}
 use native.Mathlib.Omega.{arith}
 use lib.ListN.{length}
 use denote.Ref.{now}
-use Rattle.bookfile.specs.Reading.{sizeAt, entries}
+use Rattle.bookfile.specs.Reading.{sizeAt}
 use Rattle.bookfile.specs.Replies.{Begins}
 use Rattle.bookfile.proofs.Records.{size-bounds}
 use Rattle.bookfile.proofs.Walks.{Walked, walked-none, walked-begins, walked-next}

@@ -1,14 +1,11 @@
 use borrow.Author.Needs.{needs}
 use mathlib.Core.Path.{_≡_, sym, ap, _∙_}
-use Prim.Native.Nat.{ℕ, _≤_}
-use native.Mathlib.Omega.{arith}
-use lib.ListN.{length}
+use Prim.Native.Nat.{ℕ}
 use denote.Ref.{now}
-use Rattle.derivation.specs.Refusals.{Reply, answer, verdict}
+use Rattle.derivation.specs.Refusals.{answer, verdict}
 use Rattle.table.specs.Replies.{checkedReply}
 use Rattle.bookfile.specs.Reading.{headChecks, rulesFrom}
 use Rattle.bookfile.specs.Replies.{readOf, counted}
-use Rattle.bookfile.specs.declared.reading.Counts.{Counts}
 use Rattle.bookfile.proofs.Walks.{file-refused, file-rest, head-long}
 use Rattle.bookfile.proofs.reading.examine.Statement.{statement}
 use Rattle.bookfile.proofs.reading.examine.Tie as tie

@@ -1,12 +1,11 @@
 use borrow.Author.Needs.{needs}
-use mathlib.Core.Path.{_≡_, sym, ap, subst, _∙_}
-use Prim.Native.Nat.{ℕ, _+_, _-_, _≤_, _<_}
+use mathlib.Core.Path.{_≡_}
+use Prim.Native.Nat.{_+_, _-_, _≤_, _<_}
 use native.Mathlib.Omega.{arith}
-use lib.ListN.{length, length-set}
+use lib.ListN.{length}
 use denote.Ref.{now}
 use Rattle.table.proofs.Signed.{told}
-use Rattle.bookfile.specs.Reading.{sizeAt, entries}
-use Rattle.bookfile.specs.Replies.{Begins}
+use Rattle.bookfile.specs.Reading.{sizeAt}
 use Rattle.bookfile.proofs.Records.{size-bounds}
 use Rattle.bookfile.proofs.Walks.{Filled, filled-none, filled-lengths, filled-next, filled-all, walked-begins}
 use Rattle.bookfile.proofs.reading.fill.Statement.{statement}

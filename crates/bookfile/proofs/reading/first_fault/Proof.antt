@@ -1,4 +1,3 @@
-use borrow.Author.Needs.{needs}
 use Rattle.bookfile.proofs.Records.{first-book, first-minutes, first-hours, first-unknown}
 use Rattle.bookfile.proofs.reading.first_fault.Statement.{statement}
 use Rattle.bookfile.proofs.reading.first_fault.Tie as tie

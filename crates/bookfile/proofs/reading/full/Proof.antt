@@ -1,4 +1,3 @@
-use borrow.Author.Needs.{needs}
 use borrow.Author.Tests.{le-leb, lt-leb}
 use Rattle.bookfile.specs.Replies.{fullFault}
 use Rattle.bookfile.proofs.reading.full.Statement.{statement}

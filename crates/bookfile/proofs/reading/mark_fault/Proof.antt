@@ -1,5 +1,5 @@
 use borrow.Author.Needs.{needs}
-use mathlib.Core.Path.{_≡_, sym, _∙_}
+use mathlib.Core.Path.{_∙_}
 use Rattle.bookfile.proofs.Records.{fault-book, fault-minutes, fault-hours, fault-unknown}
 use Rattle.bookfile.proofs.reading.mark_fault.Statement.{statement}
 use Rattle.bookfile.proofs.reading.mark_fault.Tie as tie

@@ -1,17 +1,15 @@
 use borrow.Author.Needs.{needs, sfits-of}
-use mathlib.Core.Path.{_≡_, sym, ap, _∙_}
+use mathlib.Core.Path.{_≡_, sym, _∙_}
 use Prim.Native.Nat.{_+_, _≤_}
 use native.Mathlib.Omega.{arith}
 use lib.ListN.{length}
-use lib.IntN.{pos, _*ℤ_}
 use denote.Ref.{now}
 use mir.Syntax.{w32}
-use mir.Val.{SFits, toZ}
 use mir.Facts.{toZ-ofZ}
 use Rattle.bookfile.specs.Numbers.{word, long, signed16, signed32}
 use Rattle.bookfile.specs.Reading.{HR}
 use Rattle.bookfile.proofs.Words.{small-fits, sixty-fits}
-use Rattle.bookfile.proofs.Records.{size-bounds, size-hours, size-minutes, offset-hours, offset-minutes}
+use Rattle.bookfile.proofs.Records.{size-bounds, size-minutes, offset-hours, offset-minutes}
 use Rattle.bookfile.proofs.reading.offset_at.Statement.{statement}
 use Rattle.bookfile.proofs.reading.offset_at.Tie as tie
 

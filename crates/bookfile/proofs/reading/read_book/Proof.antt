@@ -1,14 +1,13 @@
 use borrow.Author.Needs.{needs}
 use mathlib.Core.Path.{_≡_, sym, ap, _∙_}
-use Prim.Native.Nat.{ℕ, _+_, _-_, _≤_, _<_, min}
+use Prim.Native.Nat.{ℕ, _≤_, _<_, min}
 use native.Mathlib.Omega.{arith}
 use native.Mathlib.Nat.{min-le-left, min-le-right}
 use lib.ListN.{length}
 use denote.Ref.{now}
-use Rattle.maxatom.specs.declared.Rule.{Rule}
 use Rattle.derivation.specs.Refusals.{answer}
 use Rattle.bookfile.specs.Reading.{entries}
-use Rattle.bookfile.specs.Replies.{readOf, fileReply, readReply, roomOf}
+use Rattle.bookfile.specs.Replies.{readOf, fileReply, roomOf}
 use Rattle.bookfile.specs.declared.reading.Counts.{Counts}
 use Rattle.bookfile.proofs.Walks.{listed, listed-counts, read-refused, read-short, read-room, left-alone, written}
 use Rattle.bookfile.proofs.reading.read_book.Statement.{statement}

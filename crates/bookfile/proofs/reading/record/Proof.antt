@@ -1,12 +1,12 @@
 use borrow.Author.Needs.{needs}
 use mathlib.Core.Path.{_≡_, sym, ap, _∙_}
-use Prim.Native.Nat.{ℕ, _+_, _-_, _≤_, _<_}
+use Prim.Native.Nat.{_+_, _-_}
 use native.Mathlib.Omega.{arith}
-use lib.ListN.{length, take, drop}
+use lib.ListN.{length}
 use denote.Ref.{now}
 use Rattle.derivation.specs.Refusals.{answer}
-use Rattle.bookfile.specs.Reading.{sizeAt, entries, recordOf}
-use Rattle.bookfile.specs.Replies.{readOf, fileReply, Begins}
+use Rattle.bookfile.specs.Reading.{sizeAt, entries}
+use Rattle.bookfile.specs.Replies.{readOf, fileReply}
 use Rattle.bookfile.specs.declared.reading.Counts.{Counts}
 use Rattle.bookfile.proofs.Records.{size-bounds}
 use Rattle.bookfile.proofs.Walks.{listed, listed-counts, record-refused, record-none, record-here}

@@ -1,4 +1,3 @@
-use borrow.Author.Needs.{needs}
 use mathlib.Core.Path.{refl}
 use Rattle.table.specs.Replies.{checkedReply}
 use Rattle.bookfile.proofs.reading.refuse.Statement.{statement}

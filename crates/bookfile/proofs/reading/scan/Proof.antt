@@ -1,14 +1,13 @@
 use borrow.Author.Needs.{needs}
-use mathlib.Core.Path.{_≡_, sym, ap, _∙_}
-use Prim.Native.Nat.{ℕ, _+_, _-_}
+use mathlib.Core.Path.{sym, ap, _∙_}
+use Prim.Native.Nat.{_+_, _-_}
 use native.Mathlib.Omega.{arith}
 use lib.ListN.{length}
 use denote.Ref.{now}
-use Rattle.derivation.specs.Refusals.{refused, answer}
-use Rattle.bookfile.specs.Reading.{ruleReply, sizeAt}
+use Rattle.bookfile.specs.Reading.{sizeAt}
 use Rattle.bookfile.specs.Replies.{itemReply, readOf}
 use Rattle.bookfile.proofs.Records.{size-bounds}
-use Rattle.bookfile.proofs.Rules.{Scanned, scanned-none, scanned-next, scanned-not, scanned-all, in-file}
+use Rattle.bookfile.proofs.Rules.{Scanned, scanned-none, scanned-next, scanned-not, scanned-all}
 use Rattle.bookfile.proofs.reading.scan.Statement.{statement}
 use Rattle.bookfile.proofs.reading.scan.Tie as tie
 

@@ -1,4 +1,3 @@
-use borrow.Author.Needs.{needs}
 use borrow.Author.Tests.{eq-eqb, ne-eqb}
 use Rattle.bookfile.specs.Reading.{sizeOf}
 use Rattle.bookfile.proofs.reading.size_of.Statement.{statement}

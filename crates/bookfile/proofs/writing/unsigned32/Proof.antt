@@ -1,7 +1,5 @@
-use borrow.Author.Needs.{needs}
-use mathlib.Core.Path.{_≡_, sym, ap, _∙_}
-use lib.IntN.{ℤ, pos}
-use mir.Syntax.{w32, w64}
+use lib.IntN.{pos}
+use mir.Syntax.{w64}
 use mir.Facts.{toZ-ofZ}
 use Rattle.maxatom.proofs.Integers.{lt-true, lt-false}
 use Rattle.table.proofs.Signed.{widens, widened, not-negative}
