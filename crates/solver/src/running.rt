@@ -135,6 +135,47 @@ fn finish(
     }
 }
 
+// The same with room for the most jobs, of which it takes the first.
+fn finish_in(
+    xs: &[u16],
+    ys: &[u16],
+    zs: &[u16],
+    ks: &[i32],
+    count: usize,
+    f: i32,
+    steps: u64,
+    marks: &mut [u32],
+    last: &mut [i32],
+    drops: &mut [u32],
+    near: &mut [i32],
+    far: &mut [i32],
+    times: &mut [i32],
+) -> Solved
+    requires { ⌜ Columns (now xs) (now ys) (now zs) (now ks) count ⌝ }
+    requires { ⌜ Looping (length (now times)) (rulesOf (now xs) (now ys) (now zs) (now ks) count) (now times) steps ⌝ }
+    requires { ⌜ f ≡ floor (rulesOf (now xs) (now ys) (now zs) (now ks) count) ⌝ }
+    requires { ⌜ length (now last) ≡ 256 ⌝ }
+    requires { ⌜ Sized 256 (now drops) (now near) (now far) ⌝ }
+    ensures { λ r. ⌜ SolvedAs (solve (length (now (times .entry))) (rulesOf (now (xs .entry)) (now (ys .entry)) (now (zs .entry)) (now (ks .entry)) count)) r (now (times .exit)) ⌝ }
+{
+    let n = times.len();
+    finish(
+        xs,
+        ys,
+        zs,
+        ks,
+        count,
+        f,
+        steps,
+        marks,
+        &mut last[..n],
+        &mut drops[..n],
+        &mut near[..n],
+        &mut far[..n],
+        times,
+    )
+}
+
 // Lends the room that watching takes.
 fn finish_long(
     xs: &[u16],
@@ -151,13 +192,12 @@ fn finish_long(
     requires { ⌜ f ≡ floor (rulesOf (now xs) (now ys) (now zs) (now ks) count) ⌝ }
     ensures { λ r. ⌜ SolvedAs (solve (length (now (times .entry))) (rulesOf (now (xs .entry)) (now (ys .entry)) (now (zs .entry)) (now (ks .entry)) count)) r (now (times .exit)) ⌝ }
 {
-    let n = times.len();
     let mut marks: [u32; 16384] = [0; 16384];
     let mut last: [i32; 256] = [0; 256];
     let mut drops: [u32; 256] = [0; 256];
     let mut near: [i32; 256] = [0; 256];
     let mut far: [i32; 256] = [0; 256];
-    finish(
+    finish_in(
         xs,
         ys,
         zs,
@@ -166,10 +206,10 @@ fn finish_long(
         f,
         steps,
         &mut marks[..],
-        &mut last[..n],
-        &mut drops[..n],
-        &mut near[..n],
-        &mut far[..n],
+        &mut last[..],
+        &mut drops[..],
+        &mut near[..],
+        &mut far[..],
         times,
     )
 }
