@@ -1,5 +1,3 @@
 pub mod Laws
 pub mod Boards
 pub mod Steps
-pub mod Runs
-pub mod Jumping

@@ -1,0 +1,36 @@
+use Prim.Native.Nat.{suc, _-_, _≤_}
+use borrow.Author.Needs.{needs}
+use Rattle.jump.proofs.watching.period.Statement.{statement}
+use Rattle.jump.proofs.watching.period.Tie as tie
+
+abbrev Inv-loop : tie.InvT-loop
+Inv-loop marks seen mask p₀ p = 1 ≤ p
+
+abbrev μ-loop : tie.MeasureT-loop
+μ-loop marks seen mask p₀ p = suc seen - p
+
+loop-holds : tie.Need-loop-holds Inv-loop μ-loop
+loop-holds c = search needs
+
+returns : tie.Need-returns Inv-loop μ-loop
+returns c = search needs
+
+loop-again : tie.Need-loop-again Inv-loop μ-loop
+loop-again c = search needs
+
+returns-2 : tie.Need-returns-2 Inv-loop μ-loop
+returns-2 c = search needs
+
+pub period-spec : {M : Type 1} → statement M
+period-spec =
+    tie.close
+    (tie.spec
+    Inv-loop
+    μ-loop
+    loop-holds
+    (λ c κs. search needs)
+    returns
+    (λ c. search needs)
+    (λ c. search needs)
+    loop-again
+    returns-2)

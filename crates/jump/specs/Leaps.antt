@@ -1,0 +1,73 @@
+-- What the functions of jumps take and answer.
+use mathlib.Core.Path.{_≡_}
+use mathlib.Core.Bool.{true}
+use mathlib.Core.List.{List}
+use Prim.Native.Nat.{ℕ, _+_, _*_, _<_, _≤_, _^_}
+use lib.ListN.{length, getD}
+use lib.IntN.{ℤ, pos, _+ℤ_}
+use lib.Signed.{_≤ℤ_, ltZ}
+use Rattle.maxatom.specs.Rule.{timeAt, leftSide, satisfied}
+use Rattle.maxatom.specs.declared.Rule.{Rule}
+use Rattle.maxatom.proofs.Rules.{clausesOf}
+use Rattle.maxatom.proofs.Jumps.{Lockstep, Rounds, Passing}
+use Rattle.solver.specs.Replies.{Lowerable}
+use Rattle.jump.specs.declared.lockstep.Stand.{Stand}
+use Rattle.jump.specs.declared.lockstep.Stand.the-variants.{Kept, Low, Apart}
+
+-- how a rule stands at an assignment: a step on it would not fall
+pub record Steppable (r : Rule) (f : ℤ) (times : List ℤ) : Type 0 where
+  pub lowerable : Lowerable r times
+  pub high : f ≤ℤ leftSide r times
+
+abbrev pub Stands : Rule → ℤ → List ℤ → Stand → Type 0
+Stands r f times Kept = satisfied r times ≡ true
+Stands r f times Low = Steppable r f times
+Stands r f times Apart = Unit {0}
+
+-- and at two, with the same larger arm
+pub record BothKept (r : Rule) (near far : List ℤ) : Type 0 where
+  pub same : ltZ (timeAt near (r .x)) (timeAt near (r .y)) ≡ ltZ (timeAt far (r .x)) (timeAt far (r .y))
+  pub near-kept : satisfied r near ≡ true
+  pub far-kept : satisfied r far ≡ true
+
+pub record BothLow (r : Rule) (f : ℤ) (near far : List ℤ) : Type 0 where
+  pub same : ltZ (timeAt near (r .x)) (timeAt near (r .y)) ≡ ltZ (timeAt far (r .x)) (timeAt far (r .y))
+  pub near-low : Steppable r f near
+  pub far-low : Steppable r f far
+
+abbrev pub StandBoth : Rule → ℤ → List ℤ → List ℤ → Stand → Type 0
+StandBoth r f near far Kept = BothKept r near far
+StandBoth r f near far Low = BothLow r f near far
+StandBoth r f near far Apart = Unit {0}
+
+-- a pass in lockstep
+pub record Locked (rules : List Rule) (f : ℤ) (near far near′ far′ : List ℤ) (steps : ℕ) : Type 0 where
+  pub locked : 1 ≤ steps → Lockstep f (clausesOf rules) near far near′ far′ steps
+
+-- passes in lockstep
+pub record Rounded (rules : List Rule) (f : ℤ) (near far near′ far′ : List ℤ) (steps : ℕ) : Type 0 where
+  pub few : steps < 2 ^ 33
+  pub rounds : 1 ≤ steps → Rounds f (clausesOf rules) near far near′ far′ steps
+
+-- as many drops, near times and far times as jobs
+pub record Sized (jobs : ℕ) (drops : List ℕ) (near far : List ℤ) : Type 0 where
+  pub drops-size : length drops ≡ jobs
+  pub near-size : length near ≡ jobs
+  pub far-size : length far ≡ jobs
+
+pub record Spread (t : ℕ) (drops : List ℕ) (times near far : List ℤ) : Type 0 where
+  pub near-is : near ≡ times
+  pub far-is : (job : ℕ) → job < length times → timeAt times job ≡ timeAt far job +ℤ pos (t * getD drops job 0)
+
+pub record Dropped (t : ℕ) (drops : List ℕ) (times near far : List ℤ) : Type 0 where
+  pub near-is : (job : ℕ) → job < length times → timeAt times job ≡ timeAt near job +ℤ pos (getD drops job 0)
+  pub far-is : (job : ℕ) → job < length times → timeAt times job ≡ timeAt far job +ℤ pos ((t + 1) * getD drops job 0)
+
+-- passes, each with a step and without an end
+pub record Passed (rules : List Rule) (f : ℤ) (times times′ : List ℤ) (steps : ℕ) : Type 0 where
+  pub passing : Passing f (clausesOf rules) times times′ steps
+
+-- and those of one jump
+pub record Leapt (rules : List Rule) (f : ℤ) (times times′ : List ℤ) (steps : ℕ) : Type 0 where
+  pub few : steps < 2 ^ 63
+  pub passed : Passed rules f times times′ steps

@@ -1,0 +1,4 @@
+pub mod Runs
+pub mod Settling
+pub mod Parts
+pub mod Watching

@@ -1,0 +1,267 @@
+mod blocks;
+mod passing;
+
+ghost use mathlib.Core.Path.{_≡_};
+ghost use mathlib.Core.Bool.{Bool, true};
+ghost use Prim.Native.Nat.{ℕ, _<_, min};
+ghost use lib.ListN.{length};
+ghost use lib.IntN.{ℤ};
+ghost use Rattle.maxatom.specs.Book.{Accepted, floor};
+ghost use Rattle.derivation.specs.Run.{solve};
+ghost use Rattle.derivation.specs.Calls.{runReply, runTimes};
+ghost use Rattle.table.specs.Columns.{rulesOf, Columns};
+ghost use Rattle.jump.specs.Leaps.{Sized};
+ghost use Rattle.run.specs.Blocks.{Reads};
+ghost use Rattle.run.specs.Passing.{Looping};
+ghost use Rattle.run.specs.Replies.{solvedReply, SolvedAs, Meaning};
+use crate::blocks::index;
+use crate::passing::pass;
+use derivation::Refusal;
+use jump::watch;
+use solver::clear;
+use table::Checked;
+use table::check_times;
+use table::floor;
+use table::total;
+
+// Document 01: a plan with the steps of the run, or none with the steps and the job that fell.
+pub enum Solved {
+    Plan(u64),
+    None(u64, u16),
+    Refused(Refusal),
+}
+
+// The mark of a pass: the rules stepped on in the low half, the minutes taken off in the high half.
+fn mark(rules: u64, minutes: u64) -> u32 {
+    ((rules % 65521) + (minutes % 65521) * 65536) as u32
+}
+
+// A pass made few steps for its rules.
+fn few(steps: u64, count: usize) -> bool {
+    steps < (count as u64) / 8
+}
+
+// The marks are to be trusted, since no jump changed the times, and worth it.
+fn is_sparse(jumped: u64, steps: u64, count: usize) -> bool
+    ensures { λ r. ⌜ (r ≡ true → jumped ≡ 0) ⌝ }
+{
+    if 0 < jumped { false } else { few(steps, count) }
+}
+
+// The rest of a run that is long: each pass is watched, and passes that repeat are taken at once.
+fn finish(
+    xs: &[u16],
+    ys: &[u16],
+    zs: &[u16],
+    ks: &[i32],
+    count: usize,
+    f: i32,
+    steps: u64,
+    words: &[u64],
+    marks: &mut [u32],
+    drops: &mut [u32],
+    near: &mut [i32],
+    far: &mut [i32],
+    times: &mut [i32],
+) -> Solved
+    requires { ⌜ Columns (now xs) (now ys) (now zs) (now ks) count ⌝ }
+    requires { ⌜ Looping (length (now times)) (rulesOf (now xs) (now ys) (now zs) (now ks) count) (now times) steps ⌝ }
+    requires { ⌜ f ≡ floor (rulesOf (now xs) (now ys) (now zs) (now ks) count) ⌝ }
+    requires { ⌜ Reads (rulesOf (now xs) (now ys) (now zs) (now ks) count) (now words) ⌝ }
+    requires { ⌜ Sized (length (now times)) (now drops) (now near) (now far) ⌝ }
+    ensures { λ r. ⌜ SolvedAs (solve (length (now (times .entry))) (rulesOf (now (xs .entry)) (now (ys .entry)) (now (zs .entry)) (now (ks .entry)) count)) r (now (times .exit)) ⌝ }
+{
+    let mut s = steps;
+    let mut sparse = false;
+    let mut marked: u64 = 0;
+    let mut seen: usize = 0;
+    let mut look: usize = 16;
+    loop {
+        let p = pass(xs, ys, zs, ks, count, f, words, sparse, marked, times, s);
+        let fell = p.fell;
+        let made = p.steps;
+        if fell {
+            return Solved::None(made, p.job);
+        }
+        if made == s {
+            return Solved::Plan(made);
+        }
+        let w = watch(
+            xs,
+            ys,
+            zs,
+            ks,
+            count,
+            f,
+            seen,
+            look,
+            mark(p.rules, p.minutes),
+            marks,
+            drops,
+            near,
+            far,
+            times,
+        );
+        sparse = is_sparse(w.steps, made - s, count);
+        marked = p.marked;
+        s = made + w.steps;
+        seen = w.seen;
+        look = w.look;
+    }
+}
+
+// The same with room for the most jobs, of which it takes the first.
+fn finish_in(
+    xs: &[u16],
+    ys: &[u16],
+    zs: &[u16],
+    ks: &[i32],
+    count: usize,
+    f: i32,
+    steps: u64,
+    words: &mut [u64],
+    marks: &mut [u32],
+    drops: &mut [u32],
+    near: &mut [i32],
+    far: &mut [i32],
+    times: &mut [i32],
+) -> Solved
+    requires { ⌜ Columns (now xs) (now ys) (now zs) (now ks) count ⌝ }
+    requires { ⌜ Looping (length (now times)) (rulesOf (now xs) (now ys) (now zs) (now ks) count) (now times) steps ⌝ }
+    requires { ⌜ f ≡ floor (rulesOf (now xs) (now ys) (now zs) (now ks) count) ⌝ }
+    requires { ⌜ length (now words) ≡ 256 ⌝ }
+    requires { ⌜ Sized 256 (now drops) (now near) (now far) ⌝ }
+    ensures { λ r. ⌜ SolvedAs (solve (length (now (times .entry))) (rulesOf (now (xs .entry)) (now (ys .entry)) (now (zs .entry)) (now (ks .entry)) count)) r (now (times .exit)) ⌝ }
+{
+    let n = times.len();
+    index(xs, ys, zs, ks, count, words);
+    finish(
+        xs,
+        ys,
+        zs,
+        ks,
+        count,
+        f,
+        steps,
+        words,
+        marks,
+        &mut drops[..n],
+        &mut near[..n],
+        &mut far[..n],
+        times,
+    )
+}
+
+// Lends the room that watching takes.
+fn finish_long(
+    xs: &[u16],
+    ys: &[u16],
+    zs: &[u16],
+    ks: &[i32],
+    count: usize,
+    f: i32,
+    steps: u64,
+    times: &mut [i32],
+) -> Solved
+    requires { ⌜ Columns (now xs) (now ys) (now zs) (now ks) count ⌝ }
+    requires { ⌜ Looping (length (now times)) (rulesOf (now xs) (now ys) (now zs) (now ks) count) (now times) steps ⌝ }
+    requires { ⌜ f ≡ floor (rulesOf (now xs) (now ys) (now zs) (now ks) count) ⌝ }
+    ensures { λ r. ⌜ SolvedAs (solve (length (now (times .entry))) (rulesOf (now (xs .entry)) (now (ys .entry)) (now (zs .entry)) (now (ks .entry)) count)) r (now (times .exit)) ⌝ }
+{
+    let mut words: [u64; 256] = [0; 256];
+    let mut marks: [u32; 16384] = [0; 16384];
+    let mut drops: [u32; 256] = [0; 256];
+    let mut near: [i32; 256] = [0; 256];
+    let mut far: [i32; 256] = [0; 256];
+    finish_in(
+        xs,
+        ys,
+        zs,
+        ks,
+        count,
+        f,
+        steps,
+        &mut words[..],
+        &mut marks[..],
+        &mut drops[..],
+        &mut near[..],
+        &mut far[..],
+        times,
+    )
+}
+
+// Marks pay, after some passes, where a pass makes few steps.
+fn pays(passes: usize, steps: u64, count: usize) -> bool {
+    if passes < 16 {
+        false
+    } else {
+        few(steps, count)
+    }
+}
+
+// How many passes to make before the watching, which takes some room, pays.
+fn plain_passes(count: usize) -> usize {
+    if count < 1024 {
+        8192 / (count + 1) + 16
+    } else {
+        16
+    }
+}
+
+fn solve_checked(
+    xs: &[u16],
+    ys: &[u16],
+    zs: &[u16],
+    ks: &[i32],
+    count: usize,
+    times: &mut [i32],
+) -> Solved
+    requires { ⌜ Columns (now xs) (now ys) (now zs) (now ks) count ⌝ }
+    requires { ⌜ Accepted (length (now times)) (rulesOf (now xs) (now ys) (now zs) (now ks) count) ⌝ }
+    ensures { λ r. ⌜ SolvedAs (solve (length (now (times .entry))) (rulesOf (now (xs .entry)) (now (ys .entry)) (now (zs .entry)) (now (ks .entry)) count)) r (now (times .exit)) ⌝ }
+{
+    let f = floor(total(xs, ys, zs, ks, count));
+    clear(times);
+    let no_words: [u64; 1] = [0];
+    let most = plain_passes(count);
+    let mut s: u64 = 0;
+    let mut i: usize = 0;
+    while i < most {
+        let p = pass(xs, ys, zs, ks, count, f, &no_words[..], false, 0, times, s);
+        let fell = p.fell;
+        let steps = p.steps;
+        if fell {
+            return Solved::None(steps, p.job);
+        }
+        if steps == s {
+            return Solved::Plan(steps);
+        }
+        if pays(i, steps - s, count) {
+            return finish_long(xs, ys, zs, ks, count, f, steps, times);
+        }
+        s = steps;
+        i += 1;
+    }
+    finish_long(xs, ys, zs, ks, count, f, s, times)
+}
+
+// The bench run: the plan, or none, on any arguments. The lent times hold the assignment as it stood at the end.
+pub fn solve(
+    n: usize,
+    xs: &[u16],
+    ys: &[u16],
+    zs: &[u16],
+    ks: &[i32],
+    count: usize,
+    times: &mut [i32],
+) -> Solved
+    requires { ⌜ Columns (now xs) (now ys) (now zs) (now ks) (min count 1024) ⌝ }
+    ensures said { λ r. ⌜ solvedReply r ≡ runReply n (rulesOf (now (xs .entry)) (now (ys .entry)) (now (zs .entry)) (now (ks .entry)) count) (now (times .entry)) ⌝ }
+    ensures left { λ r. ⌜ now (times .exit) ≡ runTimes n (rulesOf (now (xs .entry)) (now (ys .entry)) (now (zs .entry)) (now (ks .entry)) count) (now (times .entry)) ⌝ }
+    ensures means { λ r. ⌜ Meaning n (rulesOf (now (xs .entry)) (now (ys .entry)) (now (zs .entry)) (now (ks .entry)) count) r (now (times .exit)) ⌝ }
+{
+    match check_times(n, xs, ys, zs, ks, count, times) {
+        Checked::Refused(r) => Solved::Refused(r),
+        Checked::Accepted => solve_checked(xs, ys, zs, ks, count, times),
+    }
+}

@@ -1,0 +1,222 @@
+// One pass over the rules: all of them, or those in blocks that are marked.
+ghost use mathlib.Core.Path.{_≡_};
+ghost use mathlib.Core.Bool.{Bool, true, false};
+ghost use Prim.Native.Nat.{ℕ, _+_, _*_, _<_, _≤_, min};
+ghost use lib.ListN.{length, getD};
+ghost use lib.IntN.{ℤ};
+ghost use Rattle.maxatom.specs.Book.{floor};
+ghost use Rattle.derivation.specs.Run.{pass};
+ghost use Rattle.table.specs.Columns.{rulesOf, Columns};
+ghost use Rattle.run.specs.Blocks.{Reads, Settled, Tracked};
+ghost use Rattle.run.specs.Passing.{runOf, Running, Parted};
+use crate::blocks::is_marked;
+use crate::blocks::unmarked;
+use solver::is_satisfied;
+use solver::lower;
+use table::rule_at;
+
+// What a pass, or a part of one, made: the steps so far; whether a job fell below the floor, and which; the blocks that are marked; and
+// a mark each of the rules stepped on and of the minutes taken off.
+pub struct PassOut {
+    pub steps: u64,
+    pub fell: bool,
+    pub job: u16,
+    pub marked: u64,
+    pub rules: u64,
+    pub minutes: u64,
+}
+
+// A number put into a mark.
+fn stir(mark: u64, number: u64) -> u64 {
+    ((mark << 7) | (mark >> 57)) ^ number
+}
+
+// The blocks that read a job; none where there is no word for it.
+fn readers(words: &[u64], job: usize) -> u64
+    ensures { λ r. ⌜ r ≡ getD (now (words .entry)) job 0 ⌝ }
+{
+    if job < words.len() { words[job] } else { 0 }
+}
+
+// The rules of a pass from one to before another: a step on each violated one, and an end at once when a time falls below the floor.
+fn part(
+    xs: &[u16],
+    ys: &[u16],
+    zs: &[u16],
+    ks: &[i32],
+    count: usize,
+    from: usize,
+    to: usize,
+    f: i32,
+    words: &[u64],
+    steps: u64,
+    marked: u64,
+    rules: u64,
+    minutes: u64,
+    times: &mut [i32],
+) -> PassOut
+    requires { ⌜ Columns (now xs) (now ys) (now zs) (now ks) count ⌝ }
+    requires { ⌜ (from ≤ to) × (to ≤ count) ⌝ }
+    requires { ⌜ Running (length (now times)) (rulesOf (now xs) (now ys) (now zs) (now ks) count) (now times) steps ⌝ }
+    requires { ⌜ f ≡ floor (rulesOf (now xs) (now ys) (now zs) (now ks) count) ⌝ }
+    ensures { λ r. ⌜ Parted (now (xs .entry)) (now (ys .entry)) (now (zs .entry)) (now (ks .entry)) count from to (now (times .entry)) steps (now (times .exit)) r ⌝ }
+    ensures { λ r. ⌜ (Reads (rulesOf (now (xs .entry)) (now (ys .entry)) (now (zs .entry)) (now (ks .entry)) count) (now (words .entry)) → Settled (rulesOf (now (xs .entry)) (now (ys .entry)) (now (zs .entry)) (now (ks .entry)) count) (now (times .entry)) marked from to → r .fell ≡ false → Settled (rulesOf (now (xs .entry)) (now (ys .entry)) (now (zs .entry)) (now (ks .entry)) count) (now (times .exit)) (r .marked) to to) ⌝ }
+{
+    let mut s = steps;
+    let mut m = marked;
+    let mut a = rules;
+    let mut g = minutes;
+    let mut i = from;
+    while i < to {
+        let r = rule_at(xs, ys, zs, ks, i);
+        if is_satisfied(r, times) {
+            i += 1;
+        } else {
+            let off = lower(r, times);
+            s += 1;
+            let z = r.z as usize;
+            if times[z] < f {
+                return PassOut {
+                    steps: s,
+                    fell: true,
+                    job: r.z,
+                    marked: 0,
+                    rules: 0,
+                    minutes: 0,
+                };
+            }
+            m = m | readers(words, z);
+            a = stir(a, i as u64);
+            g = stir(g, off);
+            i += 1;
+        }
+    }
+    PassOut {
+        steps: s,
+        fell: false,
+        job: 0,
+        marked: m,
+        rules: a,
+        minutes: g,
+    }
+}
+
+// The end of a block of rules.
+fn block_end(block: usize, count: usize) -> usize
+    requires { ⌜ (block * 16 < count) × (count ≤ 1024) ⌝ }
+    ensures { λ r. ⌜ r ≡ min (block * 16 + 16) count ⌝ }
+{
+    if block * 16 + 16 < count {
+        block * 16 + 16
+    } else {
+        count
+    }
+}
+
+// A pass over the marked blocks: the rules of the others are satisfied.
+fn pass_marked(
+    xs: &[u16],
+    ys: &[u16],
+    zs: &[u16],
+    ks: &[i32],
+    count: usize,
+    f: i32,
+    words: &[u64],
+    marked: u64,
+    times: &mut [i32],
+    steps: u64,
+) -> PassOut
+    requires { ⌜ Columns (now xs) (now ys) (now zs) (now ks) count ⌝ }
+    requires { ⌜ Running (length (now times)) (rulesOf (now xs) (now ys) (now zs) (now ks) count) (now times) steps ⌝ }
+    requires { ⌜ f ≡ floor (rulesOf (now xs) (now ys) (now zs) (now ks) count) ⌝ }
+    requires { ⌜ Tracked (rulesOf (now xs) (now ys) (now zs) (now ks) count) (now words) (now times) marked ⌝ }
+    ensures { λ r. ⌜ runOf r (now (times .exit)) ≡ pass f (rulesOf (now (xs .entry)) (now (ys .entry)) (now (zs .entry)) (now (ks .entry)) count) (now (times .entry)) steps ⌝ }
+    ensures { λ r. ⌜ (r .fell ≡ false → Settled (rulesOf (now (xs .entry)) (now (ys .entry)) (now (zs .entry)) (now (ks .entry)) count) (now (times .exit)) (r .marked) 0 0) ⌝ }
+{
+    let mut s = steps;
+    let mut m = marked;
+    let mut a: u64 = 0;
+    let mut g: u64 = 0;
+    let mut block: usize = 0;
+    while block * 16 < count {
+        if is_marked(m, block) {
+            let p = part(
+                xs,
+                ys,
+                zs,
+                ks,
+                count,
+                block * 16,
+                block_end(block, count),
+                f,
+                words,
+                s,
+                unmarked(m, block),
+                a,
+                g,
+                times,
+            );
+            let fell = p.fell;
+            if fell {
+                return p;
+            }
+            s = p.steps;
+            m = p.marked;
+            a = p.rules;
+            g = p.minutes;
+            block += 1;
+        } else {
+            block += 1;
+        }
+    }
+    PassOut {
+        steps: s,
+        fell: false,
+        job: 0,
+        marked: m,
+        rules: a,
+        minutes: g,
+    }
+}
+
+// One pass: over the marked blocks where the marks are to be trusted, else over all rules.
+pub fn pass(
+    xs: &[u16],
+    ys: &[u16],
+    zs: &[u16],
+    ks: &[i32],
+    count: usize,
+    f: i32,
+    words: &[u64],
+    sparse: bool,
+    marked: u64,
+    times: &mut [i32],
+    steps: u64,
+) -> PassOut
+    requires { ⌜ Columns (now xs) (now ys) (now zs) (now ks) count ⌝ }
+    requires { ⌜ Running (length (now times)) (rulesOf (now xs) (now ys) (now zs) (now ks) count) (now times) steps ⌝ }
+    requires { ⌜ f ≡ floor (rulesOf (now xs) (now ys) (now zs) (now ks) count) ⌝ }
+    requires { ⌜ (sparse ≡ true → Tracked (rulesOf (now xs) (now ys) (now zs) (now ks) count) (now words) (now times) marked) ⌝ }
+    ensures { λ r. ⌜ runOf r (now (times .exit)) ≡ pass f (rulesOf (now (xs .entry)) (now (ys .entry)) (now (zs .entry)) (now (ks .entry)) count) (now (times .entry)) steps ⌝ }
+    ensures { λ r. ⌜ (Reads (rulesOf (now (xs .entry)) (now (ys .entry)) (now (zs .entry)) (now (ks .entry)) count) (now (words .entry)) → r .fell ≡ false → Settled (rulesOf (now (xs .entry)) (now (ys .entry)) (now (zs .entry)) (now (ks .entry)) count) (now (times .exit)) (r .marked) 0 0) ⌝ }
+{
+    if sparse {
+        return pass_marked(xs, ys, zs, ks, count, f, words, marked, times, steps);
+    }
+    part(
+        xs,
+        ys,
+        zs,
+        ks,
+        count,
+        0,
+        count,
+        f,
+        words,
+        steps,
+        0,
+        0,
+        0,
+        times,
+    )
+}
