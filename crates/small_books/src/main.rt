@@ -232,7 +232,7 @@ fn one_step(
     out.tally
 }
 
-// Hand steps until all are refused: three jobs take at most 3 * 2 + 1, and two turns name each rule.
+// Hand steps until all are refused: a book takes at most 3 * 2 + 1, and any two turns name a violated rule.
 fn all_steps(
     order: usize,
     n: usize,
@@ -325,7 +325,7 @@ fn same(p: Answer, q: Answer) -> bool {
     p.e == q.e
 }
 
-// What hand steps in an order make of a book, where the run agrees with it and with the search.
+// What hand steps in an order make of a book; kind 2 where the run differs from them or from the search.
 fn agreed(
     order: usize,
     n: usize,
@@ -369,6 +369,7 @@ struct Counts {
     differing: u64,
 }
 
+// A sum of counts, which are all far below the bound.
 fn plus(a: u64, b: u64) -> u64 {
     if 1000000 < a {
         return a;
