@@ -1,5 +1,5 @@
 #!/usr/bin/env python3
-"""What the programs `examples`, `small_books` and `three_jobs` must write, worked out apart from the code they test.
+"""What the programs `examples` and `small_books` must write, worked out apart from the code they test.
 
 The run is the bench run of the scope: passes over the rules from 0 upward, a step on each
 broken rule, an end after a pass without a step (a plan) or when a time falls below -K (none).
@@ -36,9 +36,18 @@ def left(rule, times):
     return max(times[x], times[y]) + k
 
 
+def total(rules):
+    """K."""
+    return sum(abs(k) for _, _, _, k in rules)
+
+
+def broken(rules, times):
+    """The numbers of the broken rules."""
+    return [i for i, r in enumerate(rules) if times[r[2]] > left(r, times)]
+
+
 def run(n, rules):
     """The times at the end, the steps, and the job that fell or None."""
-    floor = -sum(abs(k) for _, _, _, k in rules)
     times, steps = [0] * n, 0
     while True:
         before = steps
@@ -47,7 +56,7 @@ def run(n, rules):
             if times[z] > left(rule, times):
                 times[z] = left(rule, times)
                 steps += 1
-                if times[z] < floor:
+                if times[z] < -total(rules):
                     return times, steps, z
         if steps == before:
             return times, steps, None
@@ -56,7 +65,7 @@ def run(n, rules):
 def text(data):
     n, rules = parse(data)
     times, steps, fell = run(n, rules)
-    lines = ["BOOK %d %d %d" % (n, len(rules), sum(abs(k) for _, _, _, k in rules))]
+    lines = ["BOOK %d %d %d" % (n, len(rules), total(rules))]
     if fell is None:
         lines += ["JOB %d %d" % item for item in enumerate(times)]
         tight = [i for i, r in enumerate(rules) if left(r, times) == times[r[2]]]
@@ -87,13 +96,12 @@ def hand():
     out = ""
     for number in (1, 0):
         rule = rules[number]
-        assert times[rule[2]] > left(rule, times)
+        assert number in broken(rules, times)
         minutes += times[rule[2]] - left(rule, times)
         steps += 1
         times[rule[2]] = left(rule, times)
         out += "BOARD %d %d\nTALLY %d %d\n" % (times[0], times[1], steps, minutes)
-    broken = [i for i, r in enumerate(rules) if times[r[2]] > left(r, times)]
-    return out + "BROKEN %d\n" % broken[0]
+    return out + "BROKEN %d\n" % broken(rules, times)[0]
 
 
 def records(data, numbers):
@@ -105,21 +113,54 @@ def records(data, numbers):
     return out
 
 
-def small_books(jobs, count, low=-6):
-    """All books of that many rules with offsets -1 to 1: how many have times from low to 0 that keep all rules."""
-    rules = list(itertools.product(range(jobs), range(jobs), range(jobs), (-1, 0, 1)))
-    board = list(itertools.product(range(low, 1), repeat=jobs))
+ORDERS = {
+    "DOWN": lambda turn, numbers: 1 - turn % 2,
+    "UP": lambda turn, numbers: turn % 2,
+    "FIRST": lambda turn, numbers: numbers[0],
+}
+
+
+def by_hand(n, rules, order):
+    """Hand steps in an order, until no rule is broken or a time is below -K: the times and the steps."""
+    times, steps = [0] * n, 0
+    for turn in itertools.count():
+        numbers = broken(rules, times)
+        if not numbers or min(times) < -total(rules):
+            return times, steps
+        number = order(turn, numbers)
+        if number in numbers:
+            times[rules[number][2]] = left(rules[number], times)
+            steps += 1
+
+
+def latest(n, rules):
+    """The latest times from -6 to 0 that keep all rules, by search; None if there are none."""
+    models = [t for t in itertools.product(range(-6, 1), repeat=n) if not broken(rules, t)]
+    return list(map(max, zip(*models))) or None
+
+
+def small_books(n, count):
+    """All books of that many rules with offsets -1 to 1, by hand steps in each order."""
+    rules = list(itertools.product(range(n), range(n), range(n), (-1, 0, 1)))
     books = list(itertools.product(rules, repeat=count))
-    plans = sum(any(all(t[r[2]] <= left(r, t) for r in b) for t in board) for b in books)
-    return "BOOKS %d PLANS %d NONES %d DIFFERING 0\n" % (len(books), plans, len(books) - plans)
+    plans = [latest(n, b) for b in books]
+    nones = plans.count(None)
+    out = ""
+    for name, order in ORDERS.items():
+        ends = [by_hand(n, b, order) for b in books]
+        differing = 0
+        for b, plan, (times, _) in zip(books, plans, ends):
+            differing += min(times) >= -total(b) if plan is None else times != plan
+        out += "%s JOBS %d RULES %d BOOKS %d PLANS %d NONES %d STEPS %d DIFFERING %d\n" % (
+            name, n, count, len(books), len(books) - nones, nones, sum(s for _, s in ends), differing,
+        )
+    return out
 
 
 if __name__ == "__main__":
     if sys.argv[1:] == ["small_books"]:
-        for count in range(3):
-            sys.stdout.write(small_books(2, count))
-    elif sys.argv[1:] == ["three_jobs"]:
-        sys.stdout.write(small_books(3, 2, -4))
+        for n, count in ((2, 0), (2, 1), (2, 2), (3, 2)):
+            sys.stdout.write(small_books(n, count))
     else:
         for letter, (n, rules) in EXAMPLES.items():
             sys.stdout.write(letter + "\n" + text(book(n, rules)))

@@ -110,12 +110,15 @@ module _ (jobs : ℕ) (file : List ℕ) (count at : ℕ) where
   no-mark h = says rule _ _ (lt-ltb _ _ h)
 
   module _ (h : at + 2 ≤ length file) where
+    in-order : said ≡ reply marks rule
+    unfolding ruleReply recordChecks
+    in-order = skips rule _ marks (le-ltb (length file) (at + 2) h)
+
     mark-first : (f : ℕ) → markFault (word file at) count ≡ f → ((f ≡ 0 → ⊥) → said ≡ refused f at) × (f ≡ 0 → said ≡ reply whole rule)
-    unfolding ruleReply recordChecks reply markFault fullFault
+    unfolding reply markFault fullFault
     mark-first f e =
         let b = by-marks at (reply whole rule) (not (known (word file at))) (eqb (word file at) BK) (leb 1024 count) f e in
-        let s = cond-no (refused 1 at) (reply marks rule) (le-ltb (length file) (at + 2) h) in
-        ((λ n. s ∙ b .0 n), (λ z. s ∙ b .1 z))
+        ((λ n. in-order ∙ b .0 n), (λ z. in-order ∙ b .1 z))
 
     pub mark-said : {f : ℕ} → f ≡ markFault (word file at) count → (f ≡ 0 → ⊥) → said ≡ refused f at
     mark-said {f} e n = mark-first f (sym e) .0 n

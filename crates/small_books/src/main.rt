@@ -1,212 +1,221 @@
-// Every book of up to two rules over two jobs, with offsets from -1 to 1: the bench run and hand steps from the last rule down, each
-// held to a search over all times from -6 to 0.
-ghost use Prim.Native.Nat.{_≤_, min};
+// Every book of up to two rules over two jobs, and of two rules over three, with offsets from -1 to 1: the bench run, hand steps in three
+// orders, and a search over all times from -6 to 0 must agree.
+ghost use Prim.Native.Nat.{_<_, _≤_, min};
 ghost use Rattle.table.specs.Columns.{Columns};
 use derivation::Tally;
 use solver::FirstViolated;
 use solver::Solved;
 use solver::Stepped;
 
-// A rule is a number below 24: its jobs are its low three bits, its offset what is left, from -1.
-fn x_of(c: u64) -> u16 {
-    if c % 2 == 0 { 0 } else { 1 }
-}
-
-fn y_of(c: u64) -> u16 {
-    if c / 2 % 2 == 0 { 0 } else { 1 }
-}
-
-fn z_of(c: u64) -> u16 {
-    if c / 4 % 2 == 0 { 0 } else { 1 }
-}
-
-fn k_of(c: u64) -> i32 {
-    if c < 8 {
-        return -1;
+// Two rules over n jobs are a number: the low three digits to base n are the first rule's jobs, the next, to base 3, is its offset
+// and 1, and what is left is the second rule.
+fn job(n: usize, c: usize) -> u16
+    requires { ⌜ 0 < n ⌝ }
+{
+    match c % n {
+        0 => 0,
+        1 => 1,
+        _ => 2,
     }
-    if c < 16 {
-        return 0;
-    }
-    1
 }
 
-// The offset and one more.
-fn above(c: u64) -> u64
+// The offset and 1.
+fn above(n: usize, c: usize) -> usize
+    requires { ⌜ 0 < n ⌝ }
     ensures { λ r. ⌜ r ≤ 2 ⌝ }
 {
-    if c < 8 {
-        return 0;
-    }
-    if c < 16 {
-        return 1;
-    }
-    2
+    c / n / n / n % 3
 }
 
-// The depth of a job: minus its time.
-fn pick(job: u16, a: u64, b: u64) -> u64
-    requires { ⌜ (a ≤ 9) × (b ≤ 9) ⌝ }
-    ensures { λ r. ⌜ r ≤ 9 ⌝ }
+fn offset(n: usize, c: usize) -> i32
+    requires { ⌜ 0 < n ⌝ }
 {
-    if job == 0 { a } else { b }
+    match above(n, c) {
+        0 => -1,
+        1 => 0,
+        _ => 1,
+    }
 }
 
-fn least(a: u64, b: u64) -> u64
+fn second(n: usize, c: usize) -> usize
+    requires { ⌜ 0 < n ⌝ }
+{
+    c / n / n / n / 3
+}
+
+// What was found, and in how many steps: a plan at the times -a, -b and -e (kind 0), none (1), or what should not be (2 and more).
+// A job that the book has not stands at 0.
+struct Answer {
+    kind: usize,
+    a: usize,
+    b: usize,
+    e: usize,
+    steps: u64,
+}
+
+fn least(a: usize, b: usize) -> usize
     ensures { λ r. ⌜ (r ≤ a) × (r ≤ b) ⌝ }
 {
     if a < b { a } else { b }
 }
 
-// A rule is kept by the times -a and -b.
-fn kept(c: u64, a: u64, b: u64) -> bool
-    requires { ⌜ (a ≤ 9) × (b ≤ 9) ⌝ }
+// Minus the time of a job.
+fn depth(p: Answer, job: u16) -> usize
+    ensures { λ r. ⌜ r ≤ 9 ⌝ }
 {
-    let left = least(pick(x_of(c), a, b), pick(y_of(c), a, b));
-    let right = pick(z_of(c), a, b);
-    left + 1 <= right + above(c)
+    match job {
+        0 => least(p.a, 9),
+        1 => least(p.b, 9),
+        _ => least(p.e, 9),
+    }
 }
 
-fn all_kept(count: usize, c: u64, d: u64, a: u64, b: u64) -> bool
-    requires { ⌜ (a ≤ 9) × (b ≤ 9) ⌝ }
+// The first rule is kept by the times.
+fn kept(n: usize, c: usize, p: Answer) -> bool
+    requires { ⌜ 0 < n ⌝ }
 {
-    if count == 0 {
-        return true;
-    }
-    if !kept(c, a, b) {
-        return false;
-    }
-    if count == 1 {
-        return true;
-    }
-    kept(d, a, b)
+    let left = least(depth(p, job(n, c)), depth(p, job(n, c / n)));
+    let right = depth(p, job(n, c / n / n));
+    left < right + above(n, c)
 }
 
-// The least depth of the second job, the first's being a; 7 if there is none.
-fn second_at(count: usize, c: u64, d: u64, a: u64) -> u64
-    requires { ⌜ a ≤ 6 ⌝ }
-    ensures { λ r. ⌜ r ≤ 7 ⌝ }
+fn all_kept(n: usize, count: usize, c: usize, p: Answer) -> bool
+    requires { ⌜ 0 < n ⌝ }
 {
-    let mut b = 0;
-    while b < 7 {
-        if all_kept(count, c, d, a, b) {
-            return b;
+    match count {
+        0 => true,
+        1 => kept(n, c, p),
+        _ => {
+            if kept(n, c, p) {
+                kept(n, second(n, c), p)
+            } else {
+                false
+            }
         }
-        b += 1;
     }
-    7
 }
 
-// The least depth of the first job; 7 if no times keep all rules.
-fn first_found(count: usize, c: u64, d: u64) -> u64
-    ensures { λ r. ⌜ r ≤ 7 ⌝ }
+// An answer with no times.
+fn bare(kind: usize, steps: u64) -> Answer {
+    Answer {
+        kind: kind,
+        a: 9,
+        b: 9,
+        e: 9,
+        steps: steps,
+    }
+}
+
+// The later of two answers, job by job.
+fn later(p: Answer, q: Answer) -> Answer {
+    Answer {
+        kind: 0,
+        a: least(p.a, q.a),
+        b: least(p.b, q.b),
+        e: least(p.e, q.e),
+        steps: 0,
+    }
+}
+
+// The times of that number, out of 343.
+fn times_of(i: usize) -> Answer {
+    Answer {
+        kind: 0,
+        a: i % 7,
+        b: i / 7 % 7,
+        e: i / 49 % 7,
+        steps: 0,
+    }
+}
+
+// By search: the latest time of each job, which must make a plan together.
+fn searched(n: usize, count: usize, c: usize) -> Answer
+    requires { ⌜ 0 < n ⌝ }
 {
-    let mut a = 0;
-    while a < 7 {
-        if second_at(count, c, d, a) < 7 {
-            return a;
+    let mut best = bare(1, 0);
+    let mut i = 0;
+    while i < 343 {
+        let p = times_of(i);
+        if all_kept(n, count, c, p) {
+            best = later(best, p);
         }
-        a += 1;
+        i += 1;
     }
-    7
-}
-
-// The least depth of the second job over all depths of the first.
-fn second_found(count: usize, c: u64, d: u64) -> u64
-    ensures { λ r. ⌜ r ≤ 7 ⌝ }
-{
-    let mut best = 7;
-    let mut a = 0;
-    while a < 7 {
-        best = least(second_at(count, c, d, a), best);
-        a += 1;
+    if best.kind == 0 {
+        if !all_kept(n, count, c, best) {
+            return bare(3, 0);
+        }
     }
     best
 }
 
-// What was found: a plan at the times -a and -b, or none.
-struct Answer {
-    plan: bool,
-    a: u64,
-    b: u64,
-}
-
-// None.
-fn nothing() -> Answer {
-    Answer {
-        plan: false,
-        a: 0,
-        b: 0,
-    }
-}
-
-// What should not be: an answer that the search never gives.
-fn wrong() -> Answer {
-    Answer {
-        plan: true,
-        a: 9,
-        b: 9,
-    }
-}
-
-// Minus a time that a plan can have; 9 for any other.
-fn depth(t: i32) -> u64
-    ensures { λ r. ⌜ r ≤ 9 ⌝ }
-{
-    if t == 0 {
+// Minus the time of a job; 0 for a job that is not there, 9 for a time that no plan has.
+fn depth_at(times: &[i32], job: usize) -> usize {
+    if times.len() <= job {
         return 0;
     }
-    if t == -1 {
-        return 1;
+    match times[job] {
+        0 => 0,
+        -1 => 1,
+        -2 => 2,
+        _ => 9,
     }
-    if t == -2 {
-        return 2;
-    }
-    9
 }
 
-// By search. The latest times of either job must make a plan together.
-fn searched(count: usize, c: u64, d: u64) -> Answer {
-    let a = first_found(count, c, d);
-    let b = second_found(count, c, d);
-    if a == 7 {
-        return nothing();
-    }
-    if !all_kept(count, c, d, a, b) {
-        return Answer {
-            plan: true,
-            a: 8,
-            b: 8,
-        };
+fn told(kind: usize, steps: u64, times: &[i32]) -> Answer {
+    if kind != 0 {
+        return bare(kind, steps);
     }
     Answer {
-        plan: true,
-        a: a,
-        b: b,
+        kind: 0,
+        a: depth_at(times, 0),
+        b: depth_at(times, 1),
+        e: depth_at(times, 2),
+        steps: steps,
     }
 }
 
 // By the bench run.
-fn solved(count: usize, c: u64, d: u64) -> Answer
-    requires { ⌜ count ≤ 2 ⌝ }
+fn solved(
+    n: usize,
+    xs: &[u16],
+    ys: &[u16],
+    zs: &[u16],
+    ks: &[i32],
+    count: usize,
+    times: &mut [i32],
+) -> Answer
+    requires { ⌜ Columns (now xs) (now ys) (now zs) (now ks) (min count 1024) ⌝ }
 {
-    let xs: [u16; 2] = [x_of(c), x_of(d)];
-    let ys: [u16; 2] = [y_of(c), y_of(d)];
-    let zs: [u16; 2] = [z_of(c), z_of(d)];
-    let ks: [i32; 2] = [k_of(c), k_of(d)];
-    let mut times: [i32; 2] = [0, 0];
-    match solver::solve(2, &xs, &ys, &zs, &ks, count, &mut times) {
-        Solved::Plan(_) => Answer {
-            plan: true,
-            a: depth(times[0]),
-            b: depth(times[1]),
-        },
-        Solved::None(_, _) => nothing(),
-        Solved::Refused(_) => wrong(),
+    match solver::solve(n, xs, ys, zs, ks, count, times) {
+        Solved::Plan(s) => told(0, s, times),
+        Solved::None(s, _) => told(1, s, times),
+        Solved::Refused(_) => told(2, 0, times),
     }
 }
 
-// A hand step on rule 1, then on rule 0; a rule that is kept or is not there is refused.
-fn two_steps(
+fn number_of(found: FirstViolated) -> usize {
+    match found {
+        FirstViolated::Nothing => 0,
+        FirstViolated::At(i) => i,
+        FirstViolated::Refused(_) => 0,
+    }
+}
+
+// The rule that an order names at a turn: from the last rule down (0), from the first up (1), always the first violated (2).
+fn named(order: usize, turn: usize, found: FirstViolated) -> usize {
+    match order {
+        0 => { if turn % 2 == 0 { 1 } else { 0 } }
+        1 => turn % 2,
+        _ => number_of(found),
+    }
+}
+
+// One hand step; a rule that is kept or is not there is refused.
+fn one_step(
+    order: usize,
+    turn: usize,
+    n: usize,
     xs: &[u16],
     ys: &[u16],
     zs: &[u16],
@@ -217,13 +226,16 @@ fn two_steps(
 ) -> Tally
     requires { ⌜ Columns (now xs) (now ys) (now zs) (now ks) (min count 1024) ⌝ }
 {
-    let one = solver::step(2, xs, ys, zs, ks, count, times, tally, 1);
-    let two = solver::step(2, xs, ys, zs, ks, count, times, one.tally, 0);
-    two.tally
+    let found = solver::first_violated(n, xs, ys, zs, ks, count, times);
+    let number = named(order, turn, found);
+    let out = solver::step(n, xs, ys, zs, ks, count, times, tally, number);
+    out.tally
 }
 
-// Hand steps until all are refused: a run over two jobs takes at most 2 * 2 + 1.
+// Hand steps until all are refused: a book takes at most 3 * 2 + 1, and any two turns name a violated rule.
 fn all_steps(
+    order: usize,
+    n: usize,
     xs: &[u16],
     ys: &[u16],
     zs: &[u16],
@@ -237,16 +249,16 @@ fn all_steps(
         steps: 0,
         minutes: 0,
     };
-    let mut i: u64 = 0;
-    while i < 6 {
-        tally = two_steps(xs, ys, zs, ks, count, times, tally);
-        i += 1;
+    let mut turn = 0;
+    while turn < 16 {
+        tally = one_step(order, turn, n, xs, ys, zs, ks, count, times, tally);
+        turn += 1;
     }
     tally
 }
 
 // 1 where a board that shows none refused the step, else 2.
-fn fallen(said: Stepped) -> u64 {
+fn fallen(said: Stepped) -> usize {
     match said {
         Stepped::Done => 2,
         Stepped::Refused(r) => { if r.number == 25 { 1 } else { 2 } }
@@ -255,6 +267,7 @@ fn fallen(said: Stepped) -> u64 {
 
 // How hand steps ended: 0 with all rules kept, 1 with a board that shows none, so that one more step is refused for that; else 2.
 fn ending(
+    n: usize,
     xs: &[u16],
     ys: &[u16],
     zs: &[u16],
@@ -262,141 +275,170 @@ fn ending(
     count: usize,
     times: &mut [i32],
     tally: Tally,
-) -> u64
+) -> usize
     requires { ⌜ Columns (now xs) (now ys) (now zs) (now ks) (min count 1024) ⌝ }
 {
-    let more = solver::step(2, xs, ys, zs, ks, count, times, tally, 0);
+    let more = solver::step(n, xs, ys, zs, ks, count, times, tally, 0);
     let said = more.said;
-    match solver::first_violated(2, xs, ys, zs, ks, count, times) {
+    match solver::first_violated(n, xs, ys, zs, ks, count, times) {
         FirstViolated::Nothing => 0,
         FirstViolated::At(_) => fallen(said),
         FirstViolated::Refused(_) => 2,
     }
 }
 
-// By hand steps; the tally's minutes must be the sum of the depths.
-fn by_hand(count: usize, c: u64, d: u64) -> Answer
-    requires { ⌜ count ≤ 2 ⌝ }
+// By hand steps; the minutes of a plan must be the sum of the depths.
+fn by_hand(
+    order: usize,
+    n: usize,
+    xs: &[u16],
+    ys: &[u16],
+    zs: &[u16],
+    ks: &[i32],
+    count: usize,
+    times: &mut [i32],
+) -> Answer
+    requires { ⌜ Columns (now xs) (now ys) (now zs) (now ks) (min count 1024) ⌝ }
 {
-    let xs: [u16; 2] = [x_of(c), x_of(d)];
-    let ys: [u16; 2] = [y_of(c), y_of(d)];
-    let zs: [u16; 2] = [z_of(c), z_of(d)];
-    let ks: [i32; 2] = [k_of(c), k_of(d)];
-    let mut times: [i32; 2] = [0, 0];
-    let tally = all_steps(&xs, &ys, &zs, &ks, count, &mut times);
-    let e = ending(&xs, &ys, &zs, &ks, count, &mut times, tally);
-    if e == 1 {
-        return nothing();
+    let tally = all_steps(order, n, xs, ys, zs, ks, count, times);
+    let end = ending(n, xs, ys, zs, ks, count, times, tally);
+    let p = told(end, tally.steps, times);
+    let sum = depth(p, 0) + depth(p, 1) + depth(p, 2);
+    if end == 0 {
+        if tally.minutes != sum as u64 {
+            return bare(2, 0);
+        }
     }
-    if e == 2 {
-        return wrong();
-    }
-    let a = depth(times[0]);
-    let b = depth(times[1]);
-    if tally.minutes != a + b {
-        return wrong();
-    }
-    Answer {
-        plan: true,
-        a: a,
-        b: b,
-    }
+    p
 }
 
 fn same(p: Answer, q: Answer) -> bool {
-    if p.plan {
-        if q.plan {
-            if p.a == q.a { p.b == q.b } else { false }
-        } else {
-            false
-        }
-    } else {
-        !q.plan
+    if p.kind != q.kind {
+        return false;
     }
+    if p.a != q.a {
+        return false;
+    }
+    if p.b != q.b {
+        return false;
+    }
+    p.e == q.e
 }
 
-// 0 for a plan and 1 for none, where all three agree; else 2.
-fn verdict(count: usize, c: u64, d: u64) -> u64
-    requires { ⌜ count ≤ 2 ⌝ }
+// What hand steps in an order make of a book; kind 2 where the run differs from them or from the search.
+fn agreed(
+    order: usize,
+    n: usize,
+    xs: &[u16],
+    ys: &[u16],
+    zs: &[u16],
+    ks: &[i32],
+    count: usize,
+    found: Answer,
+) -> Answer
+    requires { ⌜ n ≤ 3 ⌝ }
+    requires { ⌜ Columns (now xs) (now ys) (now zs) (now ks) (min count 1024) ⌝ }
 {
-    let s = searched(count, c, d);
-    if !same(s, solved(count, c, d)) {
-        return 2;
+    let mut run: [i32; 3] = [0, 0, 0];
+    let mut board: [i32; 3] = [0, 0, 0];
+    let r = solved(n, xs, ys, zs, ks, count, &mut run[0..n]);
+    let p = by_hand(order, n, xs, ys, zs, ks, count, &mut board[0..n]);
+    if !same(found, r) {
+        return bare(2, 0);
     }
-    if !same(s, by_hand(count, c, d)) {
-        return 2;
-    }
-    if s.plan { 0 } else { 1 }
+    if same(r, p) { p } else { bare(2, 0) }
 }
 
-fn next(n: u64) -> u64 {
-    if n < 1000000 { n + 1 } else { n }
+// The book of that number.
+fn tried(order: usize, n: usize, count: usize, c: usize) -> Answer
+    requires { ⌜ (0 < n) × (n ≤ 3) × (count ≤ 2) ⌝ }
+{
+    let found = searched(n, count, c);
+    let d = second(n, c);
+    let xs: [u16; 2] = [job(n, c), job(n, d)];
+    let ys: [u16; 2] = [job(n, c / n), job(n, d / n)];
+    let zs: [u16; 2] = [job(n, c / n / n), job(n, d / n / n)];
+    let ks: [i32; 2] = [offset(n, c), offset(n, d)];
+    agreed(order, n, &xs, &ys, &zs, &ks, count, found)
 }
 
 struct Counts {
-    books: u64,
     plans: u64,
     nones: u64,
+    steps: u64,
     differing: u64,
 }
 
-fn counted(t: Counts, v: u64) -> Counts {
-    if v == 0 {
-        return Counts {
-            books: next(t.books),
-            plans: next(t.plans),
-            nones: t.nones,
-            differing: t.differing,
-        };
+// A sum of counts, which are all far below the bound.
+fn plus(a: u64, b: u64) -> u64 {
+    if 1000000 < a {
+        return a;
     }
-    if v == 1 {
-        return Counts {
-            books: next(t.books),
-            plans: t.plans,
-            nones: next(t.nones),
-            differing: t.differing,
-        };
-    }
+    if 1000000 < b { b } else { a + b }
+}
+
+fn bit(b: bool) -> u64 {
+    if b { 1 } else { 0 }
+}
+
+fn counted(t: Counts, p: Answer) -> Counts {
     Counts {
-        books: next(t.books),
-        plans: t.plans,
-        nones: t.nones,
-        differing: next(t.differing),
+        plans: plus(t.plans, bit(p.kind == 0)),
+        nones: plus(t.nones, bit(p.kind == 1)),
+        steps: plus(t.steps, p.steps),
+        differing: plus(t.differing, bit(1 < p.kind)),
     }
 }
 
 // All books of that many rules, which are `many`.
-fn books(count: usize, many: u64) -> Counts
-    requires { ⌜ count ≤ 2 ⌝ }
+fn books(order: usize, n: usize, count: usize, many: usize) -> Counts
+    requires { ⌜ (0 < n) × (n ≤ 3) × (count ≤ 2) ⌝ }
 {
     let mut t = Counts {
-        books: 0,
         plans: 0,
         nones: 0,
+        steps: 0,
         differing: 0,
     };
     let mut i = 0;
     while i < many {
-        t = counted(t, verdict(count, i % 24, i / 24));
+        t = counted(t, tried(order, n, count, i));
         i += 1;
     }
     t
 }
 
-fn show(t: Counts) {
-    io::write_all(1, b"BOOKS ");
-    io::print_decimal(1, t.books);
-    io::write_all(1, b" PLANS ");
-    io::print_decimal(1, t.plans);
-    io::write_all(1, b" NONES ");
-    io::print_decimal(1, t.nones);
-    io::write_all(1, b" DIFFERING ");
-    io::print_decimal(1, t.differing);
+fn say(word: &[u8], n: u64) {
+    io::write_all(1, word);
+    io::print_decimal(1, n);
+}
+
+fn show(name: &[u8], order: usize, n: usize, count: usize, many: usize)
+    requires { ⌜ (0 < n) × (n ≤ 3) × (count ≤ 2) ⌝ }
+{
+    let t = books(order, n, count, many);
+    io::write_all(1, name);
+    say(b" JOBS ", n as u64);
+    say(b" RULES ", count as u64);
+    say(b" BOOKS ", many as u64);
+    say(b" PLANS ", t.plans);
+    say(b" NONES ", t.nones);
+    say(b" STEPS ", t.steps);
+    say(b" DIFFERING ", t.differing);
     io::write_all(1, b"\n");
 }
 
+fn orders(n: usize, count: usize, many: usize)
+    requires { ⌜ (0 < n) × (n ≤ 3) × (count ≤ 2) ⌝ }
+{
+    show(b"DOWN", 0, n, count, many);
+    show(b"UP", 1, n, count, many);
+    show(b"FIRST", 2, n, count, many);
+}
+
 fn main() {
-    show(books(0, 1));
-    show(books(1, 24));
-    show(books(2, 576));
+    orders(2, 0, 1);
+    orders(2, 1, 24);
+    orders(2, 2, 576);
+    orders(3, 2, 6561);
 }

@@ -5,10 +5,10 @@ use Rattle.small_books.proofs.books.Statement.{statement}
 use Rattle.small_books.proofs.books.Tie as tie
 
 abbrev Inv-loop : tie.InvT-loop
-Inv-loop count many t₀ i₀ t i = Unit {0}
+Inv-loop order n count many t₀ i₀ t i = Unit {0}
 
 abbrev μ-loop : tie.MeasureT-loop
-μ-loop count many t₀ i₀ t i = many - i
+μ-loop order n count many t₀ i₀ t i = many - i
 
 pub books-spec : {M : Type 1} → statement M
 books-spec =
