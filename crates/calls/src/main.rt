@@ -1,6 +1,4 @@
 // The examples of the scope through the planner's public calls.
-mod lent;
-
 fn main() {
     io::write_all(1, b"A\n");
 }

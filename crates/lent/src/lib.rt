@@ -1,5 +1,5 @@
-// Each of these functions lends a table of its own, and the hand step a tally of its own, to one entry point of the planner. The
-// table has a place more than a book may have rules; `count` of them are lent.
+// The planner's entry points for a caller that has its table and tally by value: each function lends its own copy. The table has a
+// place more than a book may have rules; `count` of them are lent.
 ghost use mathlib.Core.Path.{_≡_};
 ghost use mathlib.Core.List.{_++_};
 ghost use Prim.Native.Nat.{min};
@@ -10,7 +10,7 @@ ghost use Rattle.solver.specs.Replies.{keptReply, tightReply, steppedReply, sta
 ghost use Rattle.maxatom.specs.declared.Rule.{Rule};
 ghost use Rattle.loaded.specs.Loaded.{SolvedCall};
 ghost use Rattle.bookfile.specs.Replies.{readOf, readReply, readInto};
-ghost use Rattle.calls.specs.Lent.{lentOf};
+ghost use Rattle.lent.specs.Part.{lentOf};
 use planner::FirstViolated;
 use planner::Read;
 use planner::Rule;
@@ -18,6 +18,7 @@ use planner::Solved;
 use planner::Stepped;
 use planner::Tally;
 use planner::Tightness;
+use solver::StepOut;
 
 // What reading says, and the table that it leaves.
 pub struct BookRead {
@@ -25,12 +26,7 @@ pub struct BookRead {
     pub table: [Rule; 1025],
 }
 
-// What a hand step says, and the tally that it leaves.
-pub struct StepTaken {
-    pub said: Stepped,
-    pub tally: Tally,
-}
-
+// How many of a table's places are lent.
 fn at_most(count: usize) -> usize
     ensures { λ r. ⌜ r ≡ min count 1025 ⌝ }
 {
@@ -46,10 +42,10 @@ fn with_table(said: Read, table: [Rule; 1025]) -> BookRead
     }
 }
 
-fn with_tally(said: Stepped, tally: Tally) -> StepTaken
+fn with_tally(said: Stepped, tally: Tally) -> StepOut
     ensures { λ r. ⌜ r ≡ record { said = said; tally = tally } ⌝ }
 {
-    StepTaken {
+    StepOut {
         said: said,
         tally: tally,
     }
@@ -92,7 +88,7 @@ pub fn step(
     times: &mut [i32],
     tally: Tally,
     number: usize,
-) -> StepTaken
+) -> StepOut
     ensures { λ r. ⌜ (steppedReply (r .said) ≡ stepCall n (lentOf count table) (stateOf (now (times .entry)) tally) number .said)
         × (now (times .exit) ≡ stepCall n (lentOf count table) (stateOf (now (times .entry)) tally) number .after .times)
         × (r .tally ≡ stepCall n (lentOf count table) (stateOf (now (times .entry)) tally) number .after .tally) ⌝ }

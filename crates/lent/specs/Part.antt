@@ -1,4 +1,4 @@
--- What the functions that lend a table of their own hand to the planner.
+-- What is lent to the planner.
 use mathlib.Core.List.{List}
 use Prim.Native.Nat.{ℕ, min}
 use lib.ListN.{take}

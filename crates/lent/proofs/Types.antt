@@ -1,10 +1,8 @@
 -- The shapes of this crate's types, and the parameters of its functions (`Shapes.antt` of the crate `walk`), for the walks. Written by walkgen.py. Assumes nothing.
 use Rattle.walk.proofs.Kit.{List, [], _∷_, w8, w32, w64}
 use Rattle.walk.proofs.Shapes.{Shape, uint, sint, array, struct, enum, Par, value, shr, mut, ref}
-use Rattle.calls.proofs.lent.BookRead as BookRead-row
-use Rattle.calls.proofs.lent.BookRead.Laws as BookRead-laws
-use Rattle.calls.proofs.lent.StepTaken as StepTaken-row
-use Rattle.calls.proofs.lent.StepTaken.Laws as StepTaken-laws
+use Rattle.lent.proofs.BookRead as BookRead-row
+use Rattle.lent.proofs.BookRead.Laws as BookRead-laws
 use Rattle.bookfile.proofs.reading.Read as bookfile·reading·Read-row
 use Rattle.bookfile.proofs.reading.Read.Laws as bookfile·reading·Read-laws
 use Rattle.derivation.proofs.Tally as derivation·Tally-row
@@ -17,14 +15,13 @@ use Rattle.solver.proofs.rule.Tightness as solver·rule·Tightness-row
 use Rattle.solver.proofs.rule.Tightness.Laws as solver·rule·Tightness-laws
 use Rattle.solver.proofs.running.Solved as solver·running·Solved-row
 use Rattle.solver.proofs.running.Solved.Laws as solver·running·Solved-laws
+use Rattle.solver.proofs.stepping.StepOut as solver·stepping·StepOut-row
+use Rattle.solver.proofs.stepping.StepOut.Laws as solver·stepping·StepOut-laws
 use Rattle.solver.proofs.stepping.Stepped as solver·stepping·Stepped-row
 use Rattle.solver.proofs.stepping.Stepped.Laws as solver·stepping·Stepped-laws
 
 abbrev pub BookRead-shape : Shape
 BookRead-shape = struct BookRead-row.the-type BookRead-laws.the-laws BookRead-laws.the-copy BookRead-laws.the-plain
-
-abbrev pub StepTaken-shape : Shape
-StepTaken-shape = struct StepTaken-row.the-type StepTaken-laws.the-laws StepTaken-laws.the-copy StepTaken-laws.the-plain
 
 abbrev pub bookfile·reading·Read-shape : Shape
 bookfile·reading·Read-shape = enum bookfile·reading·Read-row.the-type bookfile·reading·Read-laws.the-laws bookfile·reading·Read-laws.the-copy bookfile·reading·Read-laws.the-plain tt
@@ -44,33 +41,21 @@ solver·rule·Tightness-shape = enum solver·rule·Tightness-row.the-type solver
 abbrev pub solver·running·Solved-shape : Shape
 solver·running·Solved-shape = enum solver·running·Solved-row.the-type solver·running·Solved-laws.the-laws solver·running·Solved-laws.the-copy solver·running·Solved-laws.the-plain tt
 
+abbrev pub solver·stepping·StepOut-shape : Shape
+solver·stepping·StepOut-shape = struct solver·stepping·StepOut-row.the-type solver·stepping·StepOut-laws.the-laws solver·stepping·StepOut-laws.the-copy solver·stepping·StepOut-laws.the-plain
+
 abbrev pub solver·stepping·Stepped-shape : Shape
 solver·stepping·Stepped-shape = enum solver·stepping·Stepped-row.the-type solver·stepping·Stepped-laws.the-laws solver·stepping·Stepped-laws.the-copy solver·stepping·Stepped-laws.the-plain tt
 
 -- the parameters of each function that a walk names
-abbrev pub lent·at-most-pars : List (Par 0)
-lent·at-most-pars = value (uint w64) ∷ []
+abbrev pub at-most-pars : List (Par 0)
+at-most-pars = value (uint w64) ∷ []
 
-abbrev pub lent·first-violated-pars : List (Par 1)
-lent·first-violated-pars = value (uint w64) ∷ value (array maxatom·Rule-shape 1025) ∷ value (uint w64) ∷ shr (sint w32) 0 tt ∷ []
+abbrev pub first-violated-pars : List (Par 1)
+first-violated-pars = value (uint w64) ∷ value (array maxatom·Rule-shape 1025) ∷ value (uint w64) ∷ shr (sint w32) 0 tt ∷ []
 
-abbrev pub lent·is-tight-pars : List (Par 1)
-lent·is-tight-pars = value (uint w64) ∷ value (array maxatom·Rule-shape 1025) ∷ value (uint w64) ∷ shr (sint w32) 0 tt ∷ value (uint w64) ∷ []
-
-abbrev pub lent·read-book-pars : List (Par 1)
-lent·read-book-pars = shr (uint w8) 0 tt ∷ value (array maxatom·Rule-shape 1025) ∷ value (uint w64) ∷ []
-
-abbrev pub lent·solve-pars : List (Par 1)
-lent·solve-pars = value (uint w64) ∷ value (array maxatom·Rule-shape 1025) ∷ value (uint w64) ∷ mut (sint w32) 0 tt ∷ []
-
-abbrev pub lent·step-pars : List (Par 1)
-lent·step-pars = value (uint w64) ∷ value (array maxatom·Rule-shape 1025) ∷ value (uint w64) ∷ mut (sint w32) 0 tt ∷ value derivation·Tally-shape ∷ value (uint w64) ∷ []
-
-abbrev pub lent·with-table-pars : List (Par 0)
-lent·with-table-pars = value bookfile·reading·Read-shape ∷ value (array maxatom·Rule-shape 1025) ∷ []
-
-abbrev pub lent·with-tally-pars : List (Par 0)
-lent·with-tally-pars = value solver·stepping·Stepped-shape ∷ value derivation·Tally-shape ∷ []
+abbrev pub is-tight-pars : List (Par 1)
+is-tight-pars = value (uint w64) ∷ value (array maxatom·Rule-shape 1025) ∷ value (uint w64) ∷ shr (sint w32) 0 tt ∷ value (uint w64) ∷ []
 
 abbrev pub planner·first-violated-pars : List (Par 2)
 planner·first-violated-pars = value (uint w64) ∷ shr maxatom·Rule-shape 0 tt ∷ shr (sint w32) 1 tt ∷ []
@@ -86,3 +71,18 @@ planner·solve-pars = value (uint w64) ∷ shr maxatom·Rule-shape 0 tt ∷ mut 
 
 abbrev pub planner·step-pars : List (Par 3)
 planner·step-pars = value (uint w64) ∷ shr maxatom·Rule-shape 0 tt ∷ mut (sint w32) 1 tt ∷ ref derivation·Tally-shape 2 tt ∷ value (uint w64) ∷ []
+
+abbrev pub read-book-pars : List (Par 1)
+read-book-pars = shr (uint w8) 0 tt ∷ value (array maxatom·Rule-shape 1025) ∷ value (uint w64) ∷ []
+
+abbrev pub solve-pars : List (Par 1)
+solve-pars = value (uint w64) ∷ value (array maxatom·Rule-shape 1025) ∷ value (uint w64) ∷ mut (sint w32) 0 tt ∷ []
+
+abbrev pub step-pars : List (Par 1)
+step-pars = value (uint w64) ∷ value (array maxatom·Rule-shape 1025) ∷ value (uint w64) ∷ mut (sint w32) 0 tt ∷ value derivation·Tally-shape ∷ value (uint w64) ∷ []
+
+abbrev pub with-table-pars : List (Par 0)
+with-table-pars = value bookfile·reading·Read-shape ∷ value (array maxatom·Rule-shape 1025) ∷ []
+
+abbrev pub with-tally-pars : List (Par 0)
+with-tally-pars = value solver·stepping·Stepped-shape ∷ value derivation·Tally-shape ∷ []
