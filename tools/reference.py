@@ -1,5 +1,5 @@
 #!/usr/bin/env python3
-"""What the programs `examples`, `calls`, `small_books` and `three_jobs` must write, worked out apart from the code they test.
+"""What the programs `examples`, `calls`, `limits`, `small_books` and `three_jobs` must write, worked out apart from the code they test.
 
 The run is the bench run of the scope: passes over the rules from 0 upward, a step on each
 broken rule, an end after a pass without a step (a plan) or when a time falls below -K (none).
@@ -278,7 +278,6 @@ def calls():
     said, times, tally = step(*l, [0, -3], (1, 3), 0)
     lines.append("L" + said + times_word(times) + tally_word(tally) + kept(*l, times))
     lines += ["B" + reading_line(book(4, B), places) for places in (3, 4)]
-    lines += ["42 4B 01 00 52" + reading_line(b"\x42\x4b\x01\0\x52", 1024), "NO BYTE" + reading_line(b"", 1024)]
     idle = 0, 0, 0, 0
     lines += [limit_line(n, idle, 0, n) for n in (0, 1, 256, 257)]
     lines += [limit_line(1, idle, count, 1) for count in (1024, 1025)]
@@ -289,9 +288,32 @@ def calls():
     return "\n".join(lines) + "\n"
 
 
+def limits():
+    """Files and plans at and past each limit: what the reader and the plan writer answer."""
+
+    def reads(data):
+        f, n, rules = read(data, 1024)
+        return refused(f) if f else " BOOK %d %d" % (n, len(rules))
+
+    def writes(n, at):
+        f = (4, 0) if not 1 <= n <= 256 else (21, 0) if at > 2048 - 8 * n else None
+        return refused(f) if f else " WRITTEN"
+
+    lines = ["jobs %d:" % n + reads(book(n, [])) for n in (0, 1, 256, 257)]
+    lines += ["rules %d:" % count + reads(book(1, [(0, 0, 0, 0)] * count)) for count in (1024, 1025)]
+    lines += ["offset bits %d:" % (k % 2**32) + reads(book(1, [(0, 0, 0, k)])) for k in (20160, 20161, -20160, -20161)]
+    lines += ["hours bits %d:" % (h % 2**16) + reads(book(1, []) + struct.pack("<2sHHHh", b"HR", 0, 0, 0, h)) for h in (336, 337, -336, -337)]
+    lines += ["job of 256, %d:" % z + reads(book(256, [(0, 0, z, 0)])) for z in (255, 256)]
+    lines += ["42 4B 01 00 52:" + reads(b"\x42\x4b\x01\0\x52"), "no byte:" + reads(b"")]
+    lines += ["times %d at %d:" % c + writes(*c) for c in ((0, 0), (1, 0), (256, 0), (256, 1), (257, 0), (1, 2040), (1, 2041), (1, 2049), (1, 2**64 - 1))]
+    return "\n".join(lines) + "\n"
+
+
 if __name__ == "__main__":
     if sys.argv[1:] == ["calls"]:
         sys.stdout.write(calls())
+    elif sys.argv[1:] == ["limits"]:
+        sys.stdout.write(limits())
     elif sys.argv[1:] == ["small_books"]:
         for count in range(3):
             sys.stdout.write(small_books(2, count))

@@ -140,15 +140,6 @@ fn say_tight(n: usize, table: [Rule; 1025], count: usize, times: &[i32]) {
     }
 }
 
-fn blank() -> [Rule; 1025] {
-    [Rule {
-        x: 0,
-        y: 0,
-        z: 0,
-        k: 0,
-    }; 1025]
-}
-
 // A book: its classes, what the bench run says and leaves, and the kept and the tight test on what it leaves.
 fn bench(n: usize, table: [Rule; 1025], count: usize, times: &mut [i32]) {
     io::write_all(1, b" BOOK");
@@ -223,7 +214,7 @@ fn both(name: &[u8], n: usize, table: [Rule; 1025], count: usize) {
 }
 
 fn example(name: &[u8], file: &[u8]) {
-    let read = lent::read_book(file, blank(), 1025);
+    let read = lent::read_book(file, lent::no_rules(), 1025);
     let said = read.said;
     let table = read.table;
     match said {
@@ -252,7 +243,7 @@ fn reading(name: &[u8], file: &[u8], places: usize) {
     io::write_all(1, name);
     io::write_all(1, b" PLACES");
     say(places as u64);
-    let read = lent::read_book(file, blank(), places);
+    let read = lent::read_book(file, lent::no_rules(), places);
     let said = read.said;
     match said {
         Read::Book(c) => {
@@ -269,7 +260,7 @@ fn reading(name: &[u8], file: &[u8], places: usize) {
 
 // Example L: a hand step that leaves its rule broken.
 fn step_of_l(file: &[u8]) {
-    let read = lent::read_book(file, blank(), 1025);
+    let read = lent::read_book(file, lent::no_rules(), 1025);
     let table = read.table;
     let mut times: [i32; 2] = [0, -3];
     let before = Tally {
@@ -392,8 +383,6 @@ fn main() {
     step_of_l(l);
     reading(b"B", b, 3);
     reading(b"B", b, 4);
-    reading(b"42 4B 01 00 52", b"\x42\x4B\x01\x00\x52", 1024);
-    reading(b"NO BYTE", b"", 1024);
     limit(0, rule(0, 0, 0, 0), 0, 0);
     limit(1, rule(0, 0, 0, 0), 0, 1);
     limit(256, rule(0, 0, 0, 0), 0, 256);

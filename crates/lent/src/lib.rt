@@ -3,9 +3,9 @@
 ghost use mathlib.Core.Path.{_≡_};
 ghost use mathlib.Core.List.{_++_};
 ghost use Prim.Native.Nat.{min};
-ghost use lib.ListN.{length, drop};
+ghost use lib.ListN.{length, drop, replicate};
 ghost use Rattle.derivation.specs.Calls.{keptCall, tightCall};
-ghost use Rattle.derivation.specs.Step.{stepCall};
+ghost use Rattle.derivation.specs.Step.{noRule, stepCall};
 ghost use Rattle.solver.specs.Replies.{keptReply, tightReply, steppedReply, stateOf};
 ghost use Rattle.maxatom.specs.declared.Rule.{Rule};
 ghost use Rattle.loaded.specs.Loaded.{SolvedCall};
@@ -24,6 +24,18 @@ use solver::StepOut;
 pub struct BookRead {
     pub said: Read,
     pub table: [Rule; 1025],
+}
+
+// A table of blank rules.
+pub fn no_rules() -> [Rule; 1025]
+    ensures { λ r. ⌜ r ≡ replicate 1025 noRule ⌝ }
+{
+    [Rule {
+        x: 0,
+        y: 0,
+        z: 0,
+        k: 0,
+    }; 1025]
 }
 
 // How many of a table's places are lent.
