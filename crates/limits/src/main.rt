@@ -1,9 +1,8 @@
 // Files and plans at and past each limit of document 01, one line a case: what the reader and the plan writer answer.
 ghost use Prim.Native.Nat.{_<_, _≤_};
-use bookfile::reading::Read;
-use bookfile::reading::read_book;
-use bookfile::writing::Written;
-use bookfile::writing::write_plan;
+use planner::Read;
+use planner::Written;
+use planner::write_plan;
 
 fn put(buf: &mut [u8], at: usize, b: u8) {
     if at < buf.len() {
@@ -66,14 +65,12 @@ fn say(a: u64, b: u64) {
 
 // What the reader answers on the first n bytes.
 fn show(file: &[u8], n: usize) {
-    let mut xs = [0u16; 1024];
-    let mut ys = [0u16; 1024];
-    let mut zs = [0u16; 1024];
-    let mut ks = [0i32; 1024];
     if file.len() < n {
         return;
     }
-    match read_book(&file[0..n], &mut xs, &mut ys, &mut zs, &mut ks) {
+    let read = lent::read_book(&file[0..n], lent::no_rules(), 1024);
+    let said = read.said;
+    match said {
         Read::Book(c) => {
             io::write_all(1, b"BOOK ");
             say(c.jobs as u64, c.rules as u64);
