@@ -1,9 +1,9 @@
 // Times the exported bench run against straight passes, on families of books (docs/PERFORMANCE.md).
 // Ends with status 1 where an answer, a step count or a time differs.
 #define _GNU_SOURCE
+#include <inttypes.h>
 #include <pthread.h>
 #include <signal.h>
-#include <stdint.h>
 #include <stdio.h>
 #include <stdlib.h>
 #include <string.h>
@@ -36,10 +36,16 @@ static void solve(const Book *b, Out *o) {
 
 // ---- straight passes ----
 
+// The floor of a book that isn't refused, else 1: the same checks as solve's.
 static int32_t floor_of(const Book *b) {
     int32_t f = 0;
-    for (size_t i = 0; i < b->count; i++)
+    if (b->n < 1 || JOBS < b->n || RULES < b->count)
+        return 1;
+    for (size_t i = 0; i < b->count; i++) {
+        if (b->n <= b->x[i] || b->n <= b->y[i] || b->n <= b->z[i] || b->k[i] < -OFFSET || OFFSET < b->k[i])
+            return 1;
         f -= abs(b->k[i]);
+    }
     return f;
 }
 
@@ -62,16 +68,20 @@ static int pass(const Book *b, int32_t floor, Out *o) {
     return steps == before;
 }
 
+// Seconds of processor time, so that other work on the machine counts for little.
 static double now(void) {
     struct timespec t;
-    clock_gettime(CLOCK_MONOTONIC, &t);
+    clock_gettime(CLOCK_PROCESS_CPUTIME_ID, &t);
     return t.tv_sec + t.tv_nsec * 1e-9;
 }
 
 // A straight run: its passes, or 0 where the limit in seconds came first, with the seconds per step of its second half.
-static uint64_t straight(const Book *b, Out *o, double limit, double *per_step) {
-    memset(o, 0, sizeof *o);
+static uint64_t straight(const Book *b, Out *o, int limit, double *per_step) {
     int32_t floor = floor_of(b);
+    if (0 < floor)
+        return o->words[0] = 2, 0;
+    memset(o->words, 0, sizeof o->words);
+    memset(o->times, 0, b->n * sizeof *o->times);
     double start = now(), half = 0;
     uint64_t steps_at_half = 0;
     for (uint64_t passes = 1;; passes++) {
@@ -79,7 +89,7 @@ static uint64_t straight(const Book *b, Out *o, double limit, double *per_step) 
             return passes;
         if (passes % 1024 == 0) {
             double t = now();
-            if (!half && limit / 2 < t - start)
+            if (!half && limit / 2.0 < t - start)
                 half = t, steps_at_half = o->words[1];
             if (limit < t - start) {
                 *per_step = (t - half) / (o->words[1] - steps_at_half);
@@ -113,9 +123,9 @@ static int in_order(int i, int len, int order) {
     return order == FORWARD ? i : order == REVERSE ? len - 1 - i : i < (len + 1) / 2 ? 2 * i : 2 * (i - (len + 1) / 2) + 1;
 }
 
-// A ring from job `at` on: rule i lowers job at + i by the job before. Its offsets alternate between -o + 1 and o - 1,
-// the first is lower by one, and their sum is -1. `join` is another ring's first job: then rule 0 takes that job as
-// the second arm, and where `arms` every sixteenth rule the job beside it.
+// A ring from job `at` on: rule i sets job at + i by the job before it. The offsets alternate between 1 - o and o - 1,
+// but for rule 0's, so that their sum is -1. Where `join` is another ring's first job, it is the second arm of rule 0,
+// and the first `arms` jobs of that ring are those of every sixteenth rule.
 static void ring(Book *b, int at, int len, int o, int order, int join, int arms) {
     for (int i = 0; i < len; i++) {
         int r = in_order(i, len, order);
@@ -123,7 +133,7 @@ static void ring(Book *b, int at, int len, int o, int order, int join, int arms)
         int x = at + (r + len - 1) % len, y = x;
         if (join >= 0 && r == 0)
             y = join;
-        else if (arms && r % 16 == 0)
+        else if (0 < r && r % 16 == 0 && r <= arms)
             y = join + r - 1;
         rule(b, x, y, k, at + r);
     }
@@ -145,7 +155,7 @@ static void full_ring(Book *b, int o, int len, int order) {
     idle(b, RULES - len, o);
 }
 
-// Two rings in reverse order, apart or joined by larger-of rules.
+// Two rings in reverse order, apart or joined by rules with two arms: then no ring falls while the other stands.
 static void apart(Book *b, int o, int len, int other) {
     b->n = len + other;
     ring(b, 0, len, o, REVERSE, -1, 0);
@@ -154,8 +164,15 @@ static void apart(Book *b, int o, int len, int other) {
 
 static void joined(Book *b, int o, int len, int other) {
     b->n = len + other;
-    ring(b, 0, len, o, REVERSE, len, 1);
+    ring(b, 0, len, o, REVERSE, len, other);
     ring(b, len, other, o, REVERSE, 0, 0);
+}
+
+// Three, apart.
+static void three(Book *b, int o, int len, int other) {
+    apart(b, o, len, other);
+    b->n = JOBS;
+    ring(b, len + other, JOBS - len - other, o, REVERSE, -1, 0);
 }
 
 // The paper's Example 1, u - o >= x after a chain of `deep` such rules; `none` adds its last rule.
@@ -184,7 +201,7 @@ static void random_plan(Book *b, int o, int n, int count) {
     }
 }
 
-// Every job has a rule with a negative offset, so the last job of a model could not stand where it does.
+// Every job has a rule with a negative offset, so none can be the latest of a model.
 static void random_none(Book *b, int o, int n, int count) {
     b->n = n;
     for (int i = 0; i < n; i++)
@@ -264,10 +281,13 @@ static const Family families[] = {
     {"ring of 256 and 768 idle rules, reverse", full_ring, OFFSET, 256, REVERSE, 3, 0},
     {"rings of 127 and 129, apart", apart, OFFSET, 127, 129, 30, 0},
     {"rings of 127 and 129, joined", joined, OFFSET, 127, 129, 30, 0},
+    {"rings of 129 and 127, joined", joined, OFFSET, 129, 127, 30, 0},
     {"rings of 126 and 130, apart", apart, OFFSET, 126, 130, 30, 0},
     {"rings of 126 and 130, joined", joined, OFFSET, 126, 130, 30, 0},
+    {"rings of 130 and 126, joined", joined, OFFSET, 130, 126, 30, 0},
     {"rings of 63 and 65, apart", apart, OFFSET, 63, 65, 200, 0},
     {"rings of 63 and 65, joined", joined, OFFSET, 63, 65, 200, 0},
+    {"rings of 83, 85 and 88, apart", three, OFFSET, 83, 85, 30, 0},
     {"Example 1, plan", example, OFFSET, 1, 0, 0, 0},
     {"Example 1, none", example, OFFSET, 1, 1, 0, 0},
     {"Example 1 after a chain of 253", example, OFFSET, 253, 0, 1000, 0},
@@ -308,10 +328,10 @@ static int by_size(const void *a, const void *b) {
     return (p > q) - (p < q);
 }
 
-enum { BATCHES = 9 };
-static const double BATCH = 0.004, LIMIT = 2, PATIENCE = 20;
+// Seconds: a batch of short calls, the most for straight passes, the most for the run.
+enum { BATCHES = 15, LIMIT = 2, PATIENCE = 20 };
+static const double BATCH = 0.01;
 
-// The median of the seconds that a call takes, over batches of so many calls.
 static double median(double *t, int count) {
     qsort(t, count, sizeof *t, by_size);
     return t[count / 2];
@@ -321,35 +341,64 @@ static int same(const Book *b, const Out *o, const Out *p) {
     return !memcmp(o->words, p->words, sizeof o->words) && !memcmp(o->times, p->times, b->n * sizeof *o->times);
 }
 
+// Three digits and no exponent, with commas.
+static const char *number(double v) {
+    static char text[4][40];
+    static int turn;
+    char digits[40], *out = text[turn++ % 4];
+    if (v < 100) {
+        int places = 2;
+        for (double u = v; 0 < u && u < 1; u *= 10)
+            places++;
+        snprintf(out, 40, "%.*f", places - (10 <= v), v);
+        return out;
+    }
+    double unit = 1;
+    while (1000 <= v / unit)
+        unit *= 10;
+    int len = snprintf(digits, sizeof digits, "%.0f", (double)(long)(v / unit + 0.5) * unit), j = 0;
+    for (int i = 0; i < len; i++) {
+        if (i && (len - i) % 3 == 0)
+            out[j++] = ',';
+        out[j++] = digits[i];
+    }
+    out[j] = 0;
+    return out;
+}
+
+static void patient_solve(const Book *b, Out *o) {
+    alarm(PATIENCE);
+    solve(b, o);
+    alarm(0);
+}
+
 // One line of the table; 0 where the answers agree.
 static int measure(const Family *f) {
     static Book b, small;
-    static Out fast, slow;
+    static Out fast, slow, small_fast, small_slow;
+    double per_step, rest, t;
     make(f, f->offset, &b);
-    memset(&fast, 0x55, sizeof fast);
-    double per_step = 0, t = now();
-    alarm(PATIENCE);
-    solve(&b, &fast);
-    alarm(0);
+
+    t = now();
+    patient_solve(&b, &fast);
     double fast_once = now() - t;
     t = now();
     uint64_t passes = straight(&b, &slow, LIMIT, &per_step);
-    double slow_once = now() - t, fast_time, slow_time;
-    int differs = 0;
+    double slow_once = now() - t;
+
+    int differs;
     if (passes)
         differs = !same(&b, &fast, &slow);
-    else if (f->sister) {
+    else {
         make(f, f->sister, &small);
-        Out o, p;
-        solve(&small, &o);
-        differs = !straight(&small, &p, 60, &per_step) || !same(&small, &o, &p);
-    } else
-        differs = 1;
+        patient_solve(&small, &small_fast);
+        differs = !straight(&small, &small_slow, 60, &rest) || !same(&small, &small_fast, &small_slow);
+    }
 
     // short calls in batches, the two by turns
-    int calls = 1 + BATCH / (fast_once > slow_once ? fast_once : slow_once);
-    int batches = fast_once + slow_once < 0.5 ? BATCHES : 3;
-    double fasts[BATCHES], slows[BATCHES], rest;
+    double once = fast_once + (passes ? slow_once : 0);
+    int calls = 1 + BATCH / once, batches = once < 0.5 ? BATCHES : once < 5 ? 3 : 1;
+    double fasts[BATCHES], slows[BATCHES];
     for (int i = 0; i < batches; i++) {
         t = now();
         for (int j = 0; j < calls; j++)
@@ -357,14 +406,18 @@ static int measure(const Family *f) {
         fasts[i] = (now() - t) / calls;
         t = now();
         for (int j = 0; passes && j < calls; j++)
-            straight(&b, &slow, LIMIT + 60, &rest);
+            straight(&b, &slow, 60, &rest);
         slows[i] = (now() - t) / calls;
     }
-    fast_time = median(fasts, batches);
-    slow_time = passes ? median(slows, batches) : per_step * fast.words[1];
-    printf("| %s | %zu | %zu | %s | %llu | %s%.3g | %.3g |%s\n", f->name, b.n, b.count,
-           fast.words[0] == PLAN ? "plan" : fast.words[0] == NONE ? "none" : "refused", (unsigned long long)fast.words[1],
-           passes ? "" : "~", slow_time / fast_time, fast_time * 1e3, differs ? " DIFFERS" : "");
+    double fast_time = median(fasts, batches);
+    double slow_time = passes ? median(slows, batches) : per_step * fast.words[1];
+
+    const char *answer = fast.words[0] == PLAN ? "plan" : fast.words[0] == NONE ? "none" : "refused";
+    printf("| %s | %zu | %zu | %s | ", f->name, b.n, b.count, answer);
+    if (passes)
+        printf("%" PRIu64, passes);
+    printf(" | %" PRIu64 " | %s%s | %s |%s\n", fast.words[1], passes ? "" : "~", number(slow_time / fast_time),
+           number(fast_time * 1e3), differs ? " DIFFERS" : "");
     return differs;
 }
 
@@ -402,7 +455,7 @@ static size_t depth(void *(*body)(void *)) {
 
 int main(void) {
     int differs = 0;
-    printf("| Book | Jobs | Rules | Answer | Steps | Straight / solve | solve, ms |\n|---|---|---|---|---|---|---|\n");
+    printf("| Book | Jobs | Rules | Answer | Passes | Steps | Straight / solve | solve, ms |\n|---|---|---|---|---|---|---|---|\n");
     for (size_t i = 0; i < sizeof families / sizeof *families; i++) {
         fflush(stdout);
         pid_t child = fork();
@@ -411,7 +464,7 @@ int main(void) {
         int status;
         waitpid(child, &status, 0);
         if (WIFSIGNALED(status) && WTERMSIG(status) == SIGALRM)
-            printf("| %s | | | | | no answer in %g s | |\n", families[i].name, PATIENCE);
+            printf("| %s | | | | | | no answer in %d s | |\n", families[i].name, PATIENCE);
         else if (status)
             differs = 1;
     }
