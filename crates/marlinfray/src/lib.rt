@@ -27,11 +27,12 @@ fn words(s: Solved) -> [u64; 3]
     }
 }
 
-// For C: void marlinfray_solve(size_t n, const uint16_t *xs, size_t xs_len, .. ys, zs, const int32_t *ks, size_t ks_len,
-// int32_t *times, size_t times_len, uint64_t reply[3]). The lent ranges don't overlap; a pointer is never null, with length 0 too.
-// Takes any numbers and lengths. Rule i is (xs[i], ys[i], ks[i] → zs[i]).
-// The reply is 0, steps, 0 for plan; 1, steps, job for none; 2, number, place for a refusal.
-// Columns of unequal lengths are refused first, with 21 and place 0. A refused call leaves the times alone.
+// The bench run on any numbers and lengths; rule i is (xs[i], ys[i], ks[i] → zs[i]). In C each slice is a pointer and a length:
+// void marlinfray_solve(size_t n, const uint16_t *xs, size_t xs_len, const uint16_t *ys, size_t ys_len, const uint16_t *zs,
+// size_t zs_len, const int32_t *ks, size_t ks_len, int32_t *times, size_t times_len, uint64_t reply[3]);
+// No pointer is null, and what is lent mutably overlaps nothing else.
+// The reply is 0, steps, 0 for plan; 1, steps, job for none; 2, number, place for a refusal, which leaves the times alone.
+// Columns of unequal lengths are refused before all else, with 21 and place 0.
 #[no_mangle]
 pub extern "C" fn marlinfray_solve(
     n: usize,
