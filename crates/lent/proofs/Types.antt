@@ -13,8 +13,8 @@ use Rattle.solver.proofs.rule.FirstViolated as solver·rule·FirstViolated-row
 use Rattle.solver.proofs.rule.FirstViolated.Laws as solver·rule·FirstViolated-laws
 use Rattle.solver.proofs.rule.Tightness as solver·rule·Tightness-row
 use Rattle.solver.proofs.rule.Tightness.Laws as solver·rule·Tightness-laws
-use Rattle.solver.proofs.running.Solved as solver·running·Solved-row
-use Rattle.solver.proofs.running.Solved.Laws as solver·running·Solved-laws
+use Rattle.run.proofs.Solved as run·Solved-row
+use Rattle.run.proofs.Solved.Laws as run·Solved-laws
 use Rattle.solver.proofs.stepping.StepOut as solver·stepping·StepOut-row
 use Rattle.solver.proofs.stepping.StepOut.Laws as solver·stepping·StepOut-laws
 use Rattle.solver.proofs.stepping.Stepped as solver·stepping·Stepped-row
@@ -38,8 +38,8 @@ solver·rule·FirstViolated-shape = enum solver·rule·FirstViolated-row.the-typ
 abbrev pub solver·rule·Tightness-shape : Shape
 solver·rule·Tightness-shape = enum solver·rule·Tightness-row.the-type solver·rule·Tightness-laws.the-laws solver·rule·Tightness-laws.the-copy solver·rule·Tightness-laws.the-plain tt
 
-abbrev pub solver·running·Solved-shape : Shape
-solver·running·Solved-shape = enum solver·running·Solved-row.the-type solver·running·Solved-laws.the-laws solver·running·Solved-laws.the-copy solver·running·Solved-laws.the-plain tt
+abbrev pub run·Solved-shape : Shape
+run·Solved-shape = enum run·Solved-row.the-type run·Solved-laws.the-laws run·Solved-laws.the-copy run·Solved-laws.the-plain tt
 
 abbrev pub solver·stepping·StepOut-shape : Shape
 solver·stepping·StepOut-shape = struct solver·stepping·StepOut-row.the-type solver·stepping·StepOut-laws.the-laws solver·stepping·StepOut-laws.the-copy solver·stepping·StepOut-laws.the-plain

@@ -18,9 +18,10 @@ use Rattle.derivation.specs.Step.{State, noRule, ruleAt, heldChecks, stepChecks
 use Rattle.derivation.specs.Calls.{keptCall, tightCall, Answer, answerOf, runReply, runTimes}
 use Rattle.derivation.specs.Run.{solve}
 use Rattle.derivation.specs.declared.Tally.{Tally}
-use Rattle.solver.specs.Replies.{solvedReply, stateOf}
-use Rattle.solver.specs.declared.running.Solved.{Solved}
-use Rattle.solver.proofs.Runs.{means}
+use Rattle.solver.specs.Replies.{stateOf}
+use Rattle.run.specs.Replies.{solvedReply}
+use Rattle.run.specs.declared.Solved.{Solved}
+use Rattle.run.proofs.Runs.{means}
 use Rattle.derivation.proofs.Checks.{says, skips}
 use Rattle.table.specs.Columns.{ruleOf, rulesOf}
 use Rattle.table.proofs.Rows.{rows-at, rows-length}

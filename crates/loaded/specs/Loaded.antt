@@ -8,8 +8,8 @@ use Rattle.maxatom.specs.declared.Rule.{Rule}
 use lib.IntN.{ℤ}
 use Rattle.derivation.specs.Step.{noRule}
 use Rattle.derivation.specs.Calls.{runReply, runTimes}
-use Rattle.solver.specs.Replies.{solvedReply, Meaning}
-use Rattle.solver.specs.declared.running.Solved.{Solved}
+use Rattle.run.specs.Replies.{solvedReply, Meaning}
+use Rattle.run.specs.declared.Solved.{Solved}
 
 -- the first 1,024 rules, with blank ones after the last, and the number of the rules
 pub record Loaded (rules table : List Rule) (count : ℕ) : Type 0 where

@@ -15,8 +15,8 @@ ghost use Rattle.solver.specs.Replies.{keptReply, tightReply, calledOf, stateOf
 ghost use Rattle.loaded.specs.Loaded.{Loaded, SolvedCall};
 use derivation::Tally;
 use maxatom::Rule;
+use run::Solved;
 use solver::FirstViolated;
-use solver::Solved;
 use solver::StepOut;
 use solver::Tightness;
 
@@ -94,5 +94,5 @@ pub fn solve(n: usize, table: [Rule; 1024], count: usize, times: &mut [i32]) -> 
     let mut zs: [u16; 1024] = [0; 1024];
     let mut ks: [i32; 1024] = [0; 1024];
     spread(table, &mut xs, &mut ys, &mut zs, &mut ks);
-    solver::solve(n, &xs, &ys, &zs, &ks, count, times)
+    run::solve(n, &xs, &ys, &zs, &ks, count, times)
 }

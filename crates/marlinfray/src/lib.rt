@@ -1,9 +1,9 @@
 // The bench run for C and Rust: `rt staticlib marlinfray` writes libmarlinfray.a.
 ghost use mathlib.Core.Path.{_≡_};
-ghost use Rattle.solver.specs.Replies.{solvedReply};
+ghost use Rattle.run.specs.Replies.{solvedReply};
 ghost use Rattle.marlinfray.specs.Exported.{words, isTable, exportedReply, exportedTimes};
-use solver::Solved;
-use solver::solve;
+use run::Solved;
+use run::solve;
 
 fn is_table(xs: &[u16], ys: &[u16], zs: &[u16], ks: &[i32]) -> bool
     ensures { λ r. ⌜ r ≡ isTable (now (xs .entry)) (now (ys .entry)) (now (zs .entry)) (now (ks .entry)) ⌝ }

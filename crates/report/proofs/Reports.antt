@@ -11,10 +11,10 @@ use Rattle.derivation.specs.Refusals.{refused, answer}
 use Rattle.derivation.specs.Run.{planned, fell}
 use Rattle.derivation.specs.Calls.{runReply, runTimes}
 use Rattle.table.specs.Columns.{rulesOf}
-use Rattle.solver.specs.Replies.{solvedReply, Meaning}
-use Rattle.solver.specs.declared.running.Solved.{Solved}
-use Rattle.solver.specs.declared.running.Solved.the-variants as Solve
-use Rattle.solver.proofs.Runs.{answered}
+use Rattle.run.specs.Replies.{solvedReply, Meaning}
+use Rattle.run.specs.declared.Solved.{Solved}
+use Rattle.run.specs.declared.Solved.the-variants as Solve
+use Rattle.run.proofs.Runs.{answered}
 use Rattle.bookfile.specs.Replies.{readReply, readInto}
 use Rattle.bookfile.specs.Theorems.{rulesIn}
 use Rattle.bookfile.specs.declared.reading.Counts.{Counts}

@@ -9,8 +9,8 @@ use crate::lines::plan_text;
 use crate::lines::refused_line;
 use bookfile::reading::Read;
 use bookfile::reading::read_book;
-use solver::Solved;
-use solver::solve;
+use run::Solved;
+use run::solve;
 
 fn table_text(
     n: usize,

@@ -3,8 +3,8 @@
 ghost use Prim.Native.Nat.{_<_, _≤_, min};
 ghost use Rattle.table.specs.Columns.{Columns};
 use derivation::Tally;
+use run::Solved;
 use solver::FirstViolated;
-use solver::Solved;
 use solver::Stepped;
 
 // Two rules over n jobs are a number: the low three digits to base n are the first rule's jobs, the next, to base 3, is its offset
@@ -187,7 +187,7 @@ fn solved(
 ) -> Answer
     requires { ⌜ Columns (now xs) (now ys) (now zs) (now ks) (min count 1024) ⌝ }
 {
-    match solver::solve(n, xs, ys, zs, ks, count, times) {
+    match run::solve(n, xs, ys, zs, ks, count, times) {
         Solved::Plan(s) => told(0, s, times),
         Solved::None(s, _) => told(1, s, times),
         Solved::Refused(_) => told(2, 0, times),

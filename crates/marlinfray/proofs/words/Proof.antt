@@ -1,7 +1,7 @@
 use borrow.Author.Needs.{needs}
 use mathlib.Core.Path.{_≡_, sym, ap}
-use Rattle.solver.specs.declared.running.Solved.{Solved}
-use Rattle.solver.specs.Replies.{solvedReply}
+use Rattle.run.specs.declared.Solved.{Solved}
+use Rattle.run.specs.Replies.{solvedReply}
 use Rattle.marlinfray.specs.Exported.{words, endWords}
 use Rattle.marlinfray.proofs.words.Statement.{statement}
 use Rattle.marlinfray.proofs.words.Tie as tie

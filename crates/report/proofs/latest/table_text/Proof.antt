@@ -4,7 +4,7 @@ use Prim.Native.Nat.{ℕ}
 use native.Mathlib.Omega.{arith}
 use native.Mathlib.Nat.{min-le-left}
 use denote.Ref.{now}
-use Rattle.solver.specs.Replies.{solvedReply, Meaning}
+use Rattle.run.specs.Replies.{solvedReply, Meaning}
 use Rattle.report.proofs.Reports.{table-refused, table-plan, table-none, plan-accepted, none-accepted}
 use Rattle.report.proofs.latest.table_text.Statement.{statement}
 use Rattle.report.proofs.latest.table_text.Tie as tie
