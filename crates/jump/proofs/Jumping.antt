@@ -251,8 +251,8 @@ module _ {t : ℕ} {drops : List ℕ} {times near far : List ℤ} {i : ℕ} (g :
   pub drops-all : length times ≤ i → Dropped t drops times near far
   drops-all h = record { near-is = λ job l. g .near-to job (omega arith); far-is = λ job l. g .far-to job (omega arith) }
 
--- jumps so far
-pub record Leaping (rules : List Rule) (f : ℤ) (times₀ : List ℤ) (drops : List ℕ) (near far times : List ℤ) (s : ℕ) : Type 0 where
-  pub passed : Passed rules f times₀ times s
+-- jumps so far: from any times that passes led to times₀ from
+pub record Leaping (rules : List Rule) (f : ℤ) (times₀ : List ℤ) (s₀ : ℕ) (drops : List ℕ) (near far times : List ℤ) (s : ℕ) : Type 0 where
+  pub passed : (b : List ℤ) → Passed rules f b times₀ s₀ → Passed rules f b times s
   pub size : length times ≡ length times₀
   pub sized : Sized (length times₀) drops near far

@@ -158,7 +158,47 @@ fn guess(f: i32, times: &[i32], near: &[i32], drops: &mut [u32]) -> u64
     if 0 < t { t - 1 } else { 0 }
 }
 
-// Repetitions of so many passes, as many as the lockstep test allows: their steps.
+// What is left of so many repetitions after the first two.
+fn others(most: u64) -> u64 {
+    if 2 < most { most - 2 } else { 0 }
+}
+
+// Repetitions of so many passes, at most `most`, as many as the lockstep test allows: their steps. The first two tell whether there are any.
+fn repeat(
+    xs: &[u16],
+    ys: &[u16],
+    zs: &[u16],
+    ks: &[i32],
+    count: usize,
+    f: i32,
+    passes: usize,
+    most: u64,
+    drops: &[u32],
+    near: &mut [i32],
+    far: &mut [i32],
+    times: &mut [i32],
+) -> u64
+    requires { ⌜ Columns (now xs) (now ys) (now zs) (now ks) count ⌝ }
+    requires { ⌜ NamedAll (rulesOf (now xs) (now ys) (now zs) (now ks) count) (length (now times)) (length (now times)) ⌝ }
+    requires { ⌜ Sized (length (now times)) (now drops) (now near) (now far) ⌝ }
+    ensures { λ r. ⌜ Passed (rulesOf (now (xs .entry)) (now (ys .entry)) (now (zs .entry)) (now (ks .entry)) count) f (now (times .entry)) (now (times .exit)) r ⌝ }
+{
+    let mut s = leap(xs, ys, zs, ks, count, f, passes, 1, drops, near, far, times);
+    if s < 1 {
+        return s;
+    }
+    let mut t = others(most);
+    while 0 < t {
+        if 4611686018427387904 <= s {
+            return s;
+        }
+        s += leap(xs, ys, zs, ks, count, f, passes, t, drops, near, far, times);
+        t = t / 2;
+    }
+    s
+}
+
+// The same, with the drops and their number found by one round of the passes.
 pub fn leaps(
     xs: &[u16],
     ys: &[u16],
@@ -182,14 +222,19 @@ pub fn leaps(
     if rounds(xs, ys, zs, ks, count, f, passes, near, far) < 1 {
         return 0;
     }
-    let mut t = guess(f, times, near, drops);
-    let mut s: u64 = 0;
-    while 0 < t {
-        if 4611686018427387904 <= s {
-            return s;
-        }
-        s += leap(xs, ys, zs, ks, count, f, passes, t, drops, near, far, times);
-        t = t / 2;
-    }
-    s
+    let most = guess(f, times, near, drops);
+    repeat(
+        xs,
+        ys,
+        zs,
+        ks,
+        count,
+        f,
+        passes,
+        most,
+        drops,
+        near,
+        far,
+        times,
+    )
 }

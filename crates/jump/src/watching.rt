@@ -8,13 +8,13 @@ ghost use Rattle.solver.specs.Replies.{NamedAll};
 ghost use Rattle.jump.specs.Leaps.{Passed, Sized};
 use crate::leaping::leaps;
 
-// The last `p` of the first `seen` marks are those before them, in the bits of the mask.
-fn repeats(marks: &[u32], seen: usize, p: usize, mask: u32) -> bool
+// The later half of the first `seen` marks are those `p` before them, in the bits of the mask.
+fn repeats(marks: &[u16], seen: usize, p: usize, mask: u16) -> bool
     requires { ⌜ seen ≤ length (now marks) ⌝ }
     requires { ⌜ 2 * p ≤ seen ⌝ }
 {
     let mut i = 1;
-    while i <= p {
+    while i <= seen / 2 {
         if (marks[seen - i] & mask) != (marks[seen - i - p] & mask) {
             return false;
         }
@@ -24,7 +24,7 @@ fn repeats(marks: &[u32], seen: usize, p: usize, mask: u32) -> bool
 }
 
 // The least number of passes that repeat, or 0.
-fn period(marks: &[u32], seen: usize, mask: u32) -> usize
+fn period(marks: &[u16], seen: usize, mask: u16) -> usize
     requires { ⌜ seen ≤ length (now marks) ⌝ }
 {
     let mut p = 1;
@@ -69,8 +69,8 @@ pub fn watch(
     f: i32,
     seen: usize,
     look: usize,
-    m: u32,
-    marks: &mut [u32],
+    m: u16,
+    marks: &mut [u16],
     drops: &mut [u32],
     near: &mut [i32],
     far: &mut [i32],
@@ -97,7 +97,7 @@ pub fn watch(
             look: look,
         };
     }
-    let p = period(marks, now, 4294967295);
+    let p = period(marks, now, 65535);
     let k = leaps(xs, ys, zs, ks, count, f, p, drops, near, far, times);
     if 0 < k {
         return Watched {
@@ -106,7 +106,7 @@ pub fn watch(
             look: first_look(p),
         };
     }
-    let q = other(p, period(marks, now, 65535));
+    let q = other(p, period(marks, now, 255));
     let j = leaps(xs, ys, zs, ks, count, f, q, drops, near, far, times);
     if 0 < j {
         return Watched {

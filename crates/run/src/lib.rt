@@ -32,8 +32,8 @@ pub enum Solved {
 }
 
 // The mark of a pass: the rules stepped on in the low half, the minutes taken off in the high half.
-fn mark(rules: u64, minutes: u64) -> u32 {
-    ((rules % 65521) + (minutes % 65521) * 65536) as u32
+fn mark(rules: u64, minutes: u64) -> u16 {
+    ((rules % 251) + (minutes % 251) * 256) as u16
 }
 
 // A pass made few steps for its rules.
@@ -58,7 +58,7 @@ fn finish(
     f: i32,
     steps: u64,
     words: &[u64],
-    marks: &mut [u32],
+    marks: &mut [u16],
     drops: &mut [u32],
     near: &mut [i32],
     far: &mut [i32],
@@ -120,7 +120,7 @@ fn finish_in(
     f: i32,
     steps: u64,
     words: &mut [u64],
-    marks: &mut [u32],
+    marks: &mut [u16],
     drops: &mut [u32],
     near: &mut [i32],
     far: &mut [i32],
@@ -169,7 +169,7 @@ fn finish_long(
     ensures { λ r. ⌜ SolvedAs (solve (length (now (times .entry))) (rulesOf (now (xs .entry)) (now (ys .entry)) (now (zs .entry)) (now (ks .entry)) count)) r (now (times .exit)) ⌝ }
 {
     let mut words: [u64; 256] = [0; 256];
-    let mut marks: [u32; 16384] = [0; 16384];
+    let mut marks: [u16; 32768] = [0; 32768];
     let mut drops: [u32; 256] = [0; 256];
     let mut near: [i32; 256] = [0; 256];
     let mut far: [i32; 256] = [0; 256];

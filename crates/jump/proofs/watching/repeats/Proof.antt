@@ -7,7 +7,7 @@ abbrev Inv-loop : tie.InvT-loop
 Inv-loop marks seen p mask i₀ i = 1 ≤ i
 
 abbrev μ-loop : tie.MeasureT-loop
-μ-loop marks seen p mask i₀ i = suc p - i
+μ-loop marks seen p mask i₀ i = suc seen - i
 
 loop-holds : tie.Need-loop-holds Inv-loop μ-loop
 loop-holds c = search needs
