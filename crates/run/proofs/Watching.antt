@@ -20,7 +20,7 @@ use Rattle.jump.proofs.Jumping.{passed-still}
 use Rattle.run.specs.Passing.{runOf, Looping}
 use Rattle.run.specs.Blocks.{Settled}
 use Rattle.run.specs.declared.passing.PassOut.{PassOut}
-use Rattle.run.proofs.Runs.{few-fit, looping-next, looping-more, solved-next, solved-less}
+use Rattle.run.proofs.Runs.{few-fit, looping-next, solved-next, solved-less}
 
 module _ {jobs : ℕ} {rules : List Rule} where
   looping-walk : {b b′ : List ℤ} {s k : ℕ} → Looping jobs rules b s → Walk (floor rules) (clausesOf rules) b b′ k → 1 ≤ k → Looping jobs rules b′ (s + k)
@@ -58,9 +58,6 @@ module _ {jobs : ℕ} {rules : List Rule} {b t t′ : List ℤ} {s k : ℕ} (l :
 
   pub watched-less : passBound jobs rules - (p .steps + k) < passBound jobs rules - s
   watched-less = let m = solved-less l p t said e q in omega arith
-
-  pub watched-more : s ≤ p .steps
-  watched-more = looping-more l (runOf p t) said
 
 -- where the watch took nothing, the pass's marks stand
 pub still-settled : {rules : List Rule} {f : ℤ} {t t′ : List ℤ} {k m : ℕ} → Passed rules f t t′ k → k ≡ 0 → Settled rules t m 0 0 → Settled rules t′ m 0 0

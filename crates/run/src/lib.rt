@@ -31,9 +31,9 @@ pub enum Solved {
     Refused(Refusal),
 }
 
-// The mark of a pass: the rules stepped on in the low half, the minutes taken off in the high half.
-fn mark(rules: u64, minutes: u64) -> u16 {
-    ((rules % 251) + (minutes % 251) * 256) as u16
+// The mark of a pass: its steps and the last of them in the low half, the minutes in the high half.
+fn mark(steps: u64, last: usize, minutes: u64) -> u16 {
+    ((steps % 1024 + (last as u64) % 1024 * 7) % 251 + (minutes % 251) * 256) as u16
 }
 
 // A pass made few steps for its rules.
@@ -86,6 +86,7 @@ fn finish(
         if made == s {
             return Solved::Plan(made);
         }
+        let new = made - s;
         let w = watch(
             xs,
             ys,
@@ -95,14 +96,14 @@ fn finish(
             f,
             seen,
             look,
-            mark(p.rules, p.minutes),
+            mark(new, p.last, p.minutes),
             marks,
             drops,
             near,
             far,
             times,
         );
-        sparse = is_sparse(w.steps, made - s, count);
+        sparse = is_sparse(w.steps, new, count);
         marked = p.marked;
         s = made + w.steps;
         seen = w.seen;

@@ -15,20 +15,20 @@ use solver::is_satisfied;
 use solver::lower;
 use table::rule_at;
 
-// What a pass, or a part of one, made: the steps so far; whether a job fell below the floor, and which; the blocks that are marked; and
-// a mark each of the rules stepped on and of the minutes taken off.
+// What a pass, or a part of one, made: the steps so far; whether a job fell below the floor, and which; the blocks that are marked; the
+// last rule stepped on; and a sum of the minutes taken off, weighed by the rules.
 pub struct PassOut {
     pub steps: u64,
     pub fell: bool,
     pub job: u16,
     pub marked: u64,
-    pub rules: u64,
+    pub last: usize,
     pub minutes: u64,
 }
 
-// A number put into a mark.
-fn stir(mark: u64, number: u64) -> u64 {
-    ((mark << 7) | (mark >> 57)) ^ number
+// Minutes weighed by a rule's number.
+fn weighed(minutes: u64, rule: usize) -> u64 {
+    (minutes % 4294967296) * ((rule as u64) % 1024 + 1)
 }
 
 // The blocks that read a job; none where there is no word for it.
@@ -51,7 +51,7 @@ fn part(
     words: &[u64],
     steps: u64,
     marked: u64,
-    rules: u64,
+    last: usize,
     minutes: u64,
     times: &mut [i32],
 ) -> PassOut
@@ -64,7 +64,7 @@ fn part(
 {
     let mut s = steps;
     let mut m = marked;
-    let mut a = rules;
+    let mut a = last;
     let mut g = minutes;
     let mut i = from;
     while i < to {
@@ -81,13 +81,13 @@ fn part(
                     fell: true,
                     job: r.z,
                     marked: 0,
-                    rules: 0,
+                    last: 0,
                     minutes: 0,
                 };
             }
             m = m | readers(words, z);
-            a = stir(a, i as u64);
-            g = stir(g, off);
+            a = i;
+            g = g ^ weighed(off, i);
             i += 1;
         }
     }
@@ -96,7 +96,7 @@ fn part(
         fell: false,
         job: 0,
         marked: m,
-        rules: a,
+        last: a,
         minutes: g,
     }
 }
@@ -135,7 +135,7 @@ fn pass_marked(
 {
     let mut s = steps;
     let mut m = marked;
-    let mut a: u64 = 0;
+    let mut a: usize = 0;
     let mut g: u64 = 0;
     let mut block: usize = 0;
     while block * 16 < count {
@@ -162,7 +162,7 @@ fn pass_marked(
             }
             s = p.steps;
             m = p.marked;
-            a = p.rules;
+            a = p.last;
             g = p.minutes;
             block += 1;
         } else {
@@ -174,7 +174,7 @@ fn pass_marked(
         fell: false,
         job: 0,
         marked: m,
-        rules: a,
+        last: a,
         minutes: g,
     }
 }

@@ -16,8 +16,8 @@ use Rattle.derivation.specs.Run.{passBound, pass}
 use Rattle.table.specs.Columns.{rulesOf}
 use Rattle.run.specs.Passing.{runOf, Looping}
 use Rattle.jump.specs.Leaps.{Passed}
-use Rattle.run.proofs.Runs.{size-of, few-fit, solved-fell, solved-still}
-use Rattle.run.proofs.Watching.{named-all, Watching, watched, watched-less, watched-more, still-settled}
+use Rattle.run.proofs.Runs.{size-of, few-fit, looping-more, solved-fell, solved-still}
+use Rattle.run.proofs.Watching.{named-all, Watching, watched, watched-less, still-settled}
 use Rattle.run.proofs.finish.Statement.{statement}
 use Rattle.run.proofs.finish.Tie as tie
 
@@ -104,11 +104,11 @@ finish-spec =
     (λ c. size (c .before .before .before))
     (λ c. let d = c .before .before .before in
     solved-still (at d .loop .inv .looping) (d .pass .result) _ (said d) (c .before .if1 .left) (c .if2 .taken))
+    (λ c. let d = c .before .before .before in omega (arith, looping-more (at d .loop .inv .looping) (runOf (d .pass .result) (d .pass .last .1 .1 .1 .1 .1 .1 .1 .1 .1 .0)) (said d)))
     (λ c κs. search needs)
     (λ c κs. let d = c .before .before .before .before .before .before .before .before .before in
     let v = at d .loop .inv in
     (start (at d) .pre .0, rw (size d) (named-all (v .looping .running .accepted) _ (omega arith), v .sized)))
-    (λ c. let k = c .before .before .before .before .before .before .before in omega (arith, watched-more (inv k .looping) (passing k .pass .result) (said (passing k)) (stands k) (moved k) (taken k)))
     (λ c κs. search needs)
     (λ c. let k = c .before .before .before .before .before .before .before .before .before in omega (arith, few-fit (again k .running)))
     (λ c. let k = c .before .before .before .before .before .before .before .before .before in watched-less (inv k .looping) (passing k .pass .result) (said (passing k)) (stands k) (moved k) (taken k))

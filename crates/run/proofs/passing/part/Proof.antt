@@ -25,10 +25,10 @@ use Rattle.run.proofs.passing.part.Statement.{statement}
 use Rattle.run.proofs.passing.part.Tie as tie
 
 abbrev Inv-loop : tie.InvT-loop
-Inv-loop xs ys zs ks count from to f words steps marked rules minutes times₀ s₀ m₀ a₀ g₀ i₀ times s m a g i = Parting xs ys zs ks count from to words times₀ steps marked times s m i
+Inv-loop xs ys zs ks count from to f words steps marked last minutes times₀ s₀ m₀ a₀ g₀ i₀ times s m a g i = Parting xs ys zs ks count from to words times₀ steps marked times s m i
 
 abbrev μ-loop : tie.MeasureT-loop
-μ-loop xs ys zs ks count from to f words steps marked rules minutes times₀ s₀ m₀ a₀ g₀ i₀ times s m a g i = to - i
+μ-loop xs ys zs ks count from to f words steps marked last minutes times₀ s₀ m₀ a₀ g₀ i₀ times s m a g i = to - i
 
 abbrev start : tie.At-loop Inv-loop μ-loop → tie.Start Inv-loop μ-loop
 start l = l .before .before .before .before .before
@@ -118,13 +118,12 @@ part-spec =
     ))
     (λ c κs. search needs)
     (λ c κs. search needs)
-    (λ c κs. search needs)
     (λ c. search needs)
     (λ c. search needs)
-    (λ c. let l = c .before .before .before .before .before .before .before in
+    (λ c. let l = c .before .before .before .before .before .before in
     let e = l .before .before in
-    parting-low (at e .loop .inv) (within (at e)) (has e) (broken e) (lowered l) (falls (c .before .before .before .before) false (c .before .before .before .if2 .left)) (names (at e) (has e) .third)
-    (c .before .before .readers .ensures ∙ ap (λ (r : Rule). getD (now (start (at e) .args .words)) (r .z) 0) (read-is e)))
+    parting-low (at e .loop .inv) (within (at e)) (has e) (broken e) (lowered l) (falls (c .before .before .before) false (c .before .before .if2 .left)) (names (at e) (has e) .third)
+    (c .before .readers .ensures ∙ ap (λ (r : Rule). getD (now (start (at e) .args .words)) (r .z) 0) (read-is e)))
     (λ c. size-of (c .before .loop .inv .going .running))
     (λ c. let l = c .before in
     let v = l .loop .inv in

@@ -89,4 +89,4 @@ pass-marked-spec =
     blocking-over (l .loop .inv) (c .before .before .loop-test .taken) (λ m. true≢false (sym (c .before .is-marked .ensures m) ∙ c .if1 .left)))
     (λ c. size-of (c .before .loop .inv .going .running))
     (λ c. let l = c .before in
-    (rw (start l .pre .1 .1 .0) (blocking-all (l .loop .inv) (c .loop-test .left) (record { steps = l .loop .s; fell = false; job = 0; marked = l .loop .m; rules = l .loop .a; minutes = l .loop .g }) refl refl), λ f. l .loop .inv .settled)))
+    (rw (start l .pre .1 .1 .0) (blocking-all (l .loop .inv) (c .loop-test .left) (record { steps = l .loop .s; fell = false; job = 0; marked = l .loop .m; last = l .loop .a; minutes = l .loop .g }) refl refl), λ f. l .loop .inv .settled)))
