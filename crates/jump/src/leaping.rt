@@ -7,7 +7,11 @@ ghost use lib.IntN.{ℤ, pos, _+ℤ_};
 ghost use Rattle.table.specs.Columns.{rulesOf, Columns};
 ghost use Rattle.solver.specs.Replies.{NamedAll};
 ghost use Rattle.jump.specs.Leaps.{Spread, Dropped, Passed, Leapt, Sized};
+use crate::lockstep::Stand;
 use crate::lockstep::rounds;
+use crate::lockstep::stand_at;
+use solver::lower;
+use table::rule_at;
 
 // A time so many minutes earlier.
 fn earlier(t: i32, minutes: u64) -> i64
@@ -158,12 +162,20 @@ fn guess(f: i32, times: &[i32], near: &[i32], drops: &mut [u32]) -> u64
     if 0 < t { t - 1 } else { 0 }
 }
 
-// What is left of so many repetitions after the first two.
-fn others(most: u64) -> u64 {
-    if 2 < most { most - 2 } else { 0 }
+// Two repetitions tell whether there are more; of many passes, whose marks tell enough, all are tried at once.
+fn first_try(passes: usize, most: u64) -> u64 {
+    if passes < 64 { 1 } else { most }
 }
 
-// Repetitions of so many passes, at most `most`, as many as the lockstep test allows: their steps. The first two tell whether there are any.
+// What to try after the first: half as many, or what is left.
+fn next_try(first: u64, most: u64, steps: u64) -> u64 {
+    if steps < 1 {
+        return first / 2;
+    }
+    if first < most { most - first - 1 } else { 0 }
+}
+
+// Repetitions of so many passes, about `most`, as many as the lockstep test allows: their steps.
 fn repeat(
     xs: &[u16],
     ys: &[u16],
@@ -183,11 +195,22 @@ fn repeat(
     requires { ⌜ Sized (length (now times)) (now drops) (now near) (now far) ⌝ }
     ensures { λ r. ⌜ Passed (rulesOf (now (xs .entry)) (now (ys .entry)) (now (zs .entry)) (now (ks .entry)) count) f (now (times .entry)) (now (times .exit)) r ⌝ }
 {
-    let mut s = leap(xs, ys, zs, ks, count, f, passes, 1, drops, near, far, times);
-    if s < 1 {
-        return s;
-    }
-    let mut t = others(most);
+    let first = first_try(passes, most);
+    let mut s = leap(
+        xs,
+        ys,
+        zs,
+        ks,
+        count,
+        f,
+        passes,
+        first,
+        drops,
+        near,
+        far,
+        times,
+    );
+    let mut t = next_try(first, most, s);
     while 0 < t {
         if 4611686018427387904 <= s {
             return s;
@@ -198,7 +221,50 @@ fn repeat(
     s
 }
 
-// The same, with the drops and their number found by one round of the passes.
+// One pass from the times, without an end: a guess, so that it promises nothing.
+fn try_pass(xs: &[u16], ys: &[u16], zs: &[u16], ks: &[i32], count: usize, f: i32, near: &mut [i32])
+    requires { ⌜ Columns (now xs) (now ys) (now zs) (now ks) count ⌝ }
+    requires { ⌜ NamedAll (rulesOf (now xs) (now ys) (now zs) (now ks) count) (length (now near)) (length (now near)) ⌝ }
+{
+    let mut i = 0;
+    while i < count {
+        let r = rule_at(xs, ys, zs, ks, i);
+        match stand_at(r, f, near) {
+            Stand::Low => {
+                lower(r, near);
+                i += 1;
+            }
+            Stand::Kept => {
+                i += 1;
+            }
+            Stand::Apart => {
+                i += 1;
+            }
+        }
+    }
+}
+
+fn try_passes(
+    xs: &[u16],
+    ys: &[u16],
+    zs: &[u16],
+    ks: &[i32],
+    count: usize,
+    f: i32,
+    passes: usize,
+    near: &mut [i32],
+)
+    requires { ⌜ Columns (now xs) (now ys) (now zs) (now ks) count ⌝ }
+    requires { ⌜ NamedAll (rulesOf (now xs) (now ys) (now zs) (now ks) count) (length (now near)) (length (now near)) ⌝ }
+{
+    let mut i = 0;
+    while i < passes {
+        try_pass(xs, ys, zs, ks, count, f, near);
+        i += 1;
+    }
+}
+
+// The same, with the drops and their number found by a try of the passes.
 pub fn leaps(
     xs: &[u16],
     ys: &[u16],
@@ -217,11 +283,11 @@ pub fn leaps(
     requires { ⌜ Sized (length (now times)) (now drops) (now near) (now far) ⌝ }
     ensures { λ r. ⌜ Passed (rulesOf (now (xs .entry)) (now (ys .entry)) (now (zs .entry)) (now (ks .entry)) count) f (now (times .entry)) (now (times .exit)) r ⌝ }
 {
-    copy(times, near);
-    copy(times, far);
-    if rounds(xs, ys, zs, ks, count, f, passes, near, far) < 1 {
+    if passes < 1 {
         return 0;
     }
+    copy(times, near);
+    try_passes(xs, ys, zs, ks, count, f, passes, near);
     let most = guess(f, times, near, drops);
     repeat(
         xs,

@@ -19,7 +19,7 @@ pub enum Stand {
     Apart,
 }
 
-fn stand_at(r: Rule, f: i32, times: &[i32]) -> Stand
+pub fn stand_at(r: Rule, f: i32, times: &[i32]) -> Stand
     requires { ⌜ Named r (length (now times)) ⌝ }
     ensures { λ s. ⌜ Stands r f (now (times .entry)) s ⌝ }
 {

@@ -9,12 +9,12 @@ use Rattle.derivation.proofs.Tally as derivation·Tally-row
 use Rattle.derivation.proofs.Tally.Laws as derivation·Tally-laws
 use Rattle.maxatom.proofs.Rule as maxatom·Rule-row
 use Rattle.maxatom.proofs.Rule.Laws as maxatom·Rule-laws
+use Rattle.run.proofs.Solved as run·Solved-row
+use Rattle.run.proofs.Solved.Laws as run·Solved-laws
 use Rattle.solver.proofs.rule.FirstViolated as solver·rule·FirstViolated-row
 use Rattle.solver.proofs.rule.FirstViolated.Laws as solver·rule·FirstViolated-laws
 use Rattle.solver.proofs.rule.Tightness as solver·rule·Tightness-row
 use Rattle.solver.proofs.rule.Tightness.Laws as solver·rule·Tightness-laws
-use Rattle.run.proofs.Solved as run·Solved-row
-use Rattle.run.proofs.Solved.Laws as run·Solved-laws
 use Rattle.solver.proofs.stepping.StepOut as solver·stepping·StepOut-row
 use Rattle.solver.proofs.stepping.StepOut.Laws as solver·stepping·StepOut-laws
 use Rattle.solver.proofs.stepping.Stepped as solver·stepping·Stepped-row
@@ -32,14 +32,14 @@ derivation·Tally-shape = struct derivation·Tally-row.the-type derivation·Tall
 abbrev pub maxatom·Rule-shape : Shape
 maxatom·Rule-shape = struct maxatom·Rule-row.the-type maxatom·Rule-laws.the-laws maxatom·Rule-laws.the-copy maxatom·Rule-laws.the-plain
 
+abbrev pub run·Solved-shape : Shape
+run·Solved-shape = enum run·Solved-row.the-type run·Solved-laws.the-laws run·Solved-laws.the-copy run·Solved-laws.the-plain tt
+
 abbrev pub solver·rule·FirstViolated-shape : Shape
 solver·rule·FirstViolated-shape = enum solver·rule·FirstViolated-row.the-type solver·rule·FirstViolated-laws.the-laws solver·rule·FirstViolated-laws.the-copy solver·rule·FirstViolated-laws.the-plain tt
 
 abbrev pub solver·rule·Tightness-shape : Shape
 solver·rule·Tightness-shape = enum solver·rule·Tightness-row.the-type solver·rule·Tightness-laws.the-laws solver·rule·Tightness-laws.the-copy solver·rule·Tightness-laws.the-plain tt
-
-abbrev pub run·Solved-shape : Shape
-run·Solved-shape = enum run·Solved-row.the-type run·Solved-laws.the-laws run·Solved-laws.the-copy run·Solved-laws.the-plain tt
 
 abbrev pub solver·stepping·StepOut-shape : Shape
 solver·stepping·StepOut-shape = struct solver·stepping·StepOut-row.the-type solver·stepping·StepOut-laws.the-laws solver·stepping·StepOut-laws.the-copy solver·stepping·StepOut-laws.the-plain

@@ -5,7 +5,7 @@ use Rattle.walk.proofs.Kit.{refl, [], _∷_, lit<, take, URA, fullShare, w64, S
 use Rattle.walk.proofs.Shapes.{uint, array, fits, slice-fits}
 use Rattle.walk.proofs.Steps.{meets, calls, calls-is, tidy, at, part, pointer, same, sets, lands-at, leaves}
 use Rattle.walk.proofs.Lend.{to-local, first-val, address, lends-first, ends-first}
-use Rattle.lent.proofs.Types.{at-most-pars, maxatom·Rule-shape, planner·solve-pars, solve-pars, run·Solved-shape}
+use Rattle.lent.proofs.Types.{at-most-pars, maxatom·Rule-shape, planner·solve-pars, run·Solved-shape, solve-pars}
 use Prim.Native.Nat.{min}
 use native.Mathlib.Nat.{min-le-right}
 use Rattle.lent.proofs.at_most as at-most-fn

@@ -4,7 +4,7 @@ use contract.Running.{givenOf, tables, tablesOf}
 use Rattle.walk.proofs.Kit.{refl, [], _∷_, length, URA, w64, SProp, emp, id⊢, Memory, Routine, Heap, WpFn, Tables, Atoms, Fun, factI, Given, _$_, !, move, agg, whole, sub, look, of-opd, and-then, no-more, now, Meets, tripleOf, Triple, entered, cited}
 use Rattle.walk.proofs.Shapes.{uint, array, fits, slice-fits}
 use Rattle.walk.proofs.Steps.{meets, calls, calls-is, tidy, at, part, pointer, sets, lands-at, leaves}
-use Rattle.planner.proofs.Types.{load-any-pars, loaded·solve-pars, maxatom·Rule-shape, solve-pars, run·Solved-shape}
+use Rattle.planner.proofs.Types.{load-any-pars, loaded·solve-pars, maxatom·Rule-shape, run·Solved-shape, solve-pars}
 use Rattle.walk.specs.Table.{padded}
 use Rattle.derivation.specs.Step.{noRule}
 use Rattle.planner.proofs.load_any as load-any-fn

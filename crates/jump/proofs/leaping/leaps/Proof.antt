@@ -7,35 +7,25 @@ use borrow.Author.Needs.{needs}
 use Rattle.jump.proofs.leaping.leaps.Statement.{statement}
 use Rattle.jump.proofs.leaping.leaps.Tie as tie
 
--- the lengths are as they were
-module _ (c : tie.After-rounds) where
-  abbrev start : tie.Start
-  start = c .before .before .before .before .before .before .before .before .before .before .before .before .before .before .before
+abbrev start : tie.After-try-passes → tie.Start
+start c = c .before .before .before .before .before .before .before .before .before .before .before
 
-  near-kept : length (c .rounds .last .1 .1 .1 .1 .1 .1 .1 .0) ≡ length (now (start .args .times))
-  near-kept = c .rounds .kept .1 .1 .1 .1 .1 .1 .1 .0 ∙ (c .before .before .before .before .before .before .before .before .copy .kept .1 .0 ∙ start .pre .1 .1 .near-size)
-
-  far-kept : length (c .rounds .last .1 .1 .1 .1 .1 .1 .1 .1 .0) ≡ length (now (start .args .times))
-  far-kept = c .rounds .kept .1 .1 .1 .1 .1 .1 .1 .1 .0 ∙ (c .before .before .before .before .copy2 .kept .1 .0 ∙ start .pre .1 .1 .far-size)
+near-kept : (c : tie.After-try-passes) → length (c .try-passes .last .1 .1 .1 .1 .1 .1 .1 .0) ≡ length (now (start c .args .times))
+near-kept c = c .try-passes .kept .1 .1 .1 .1 .1 .1 .1 .0 ∙ (c .before .before .before .copy .kept .1 .0 ∙ start c .pre .1 .1 .near-size)
 
 pub leaps-spec : {M : Type 1} → statement M
 leaps-spec =
     tie.close
     (tie.spec
-    (λ c κs. search needs)
-    (λ c κs. search needs)
-    (λ c κs. let p = c .before .before .before .before .before .before .before .before .before .before .before .before .before .before .pre in
-    (p .0, rw (c .before .before .before .before .before .before .before .copy .kept .1 .0 ∙ p .1 .1 .near-size, c .before .before .before .copy2 .kept .1 .0 ∙ p .1 .1 .far-size) (p .1 .0)))
-    (λ c. search needs)
-    (λ c. search needs)
-    (λ c. search needs)
     (λ c. passed-none _ _ _)
-    (λ c κs. let d = c .before .before .before .before .before .before in (near-kept d, start d .pre .1 .1 .drops-size))
-    (λ c κs. let d = c .before .before .before .before .before .before .before .before .before .before .before .before .before in
+    (λ c κs. search needs)
+    (λ c κs. let p = c .before .before .before .before .before .before .before .before .before .before .pre in (p .0, rw (c .before .before .copy .kept .1 .0 ∙ p .1 .1 .near-size) (p .1 .0)))
+    (λ c κs. let d = c .before .before .before .before in (near-kept d, start d .pre .1 .1 .drops-size))
+    (λ c κs. let d = c .before .before .before .before .before .before .before .before .before .before .before in
     let p = start d .pre in
-    (p .0, (p .1 .0, record { drops-size = c .before .before .before .before .before .before .guess .kept .1 .1 .1 .0 ∙ p .1 .1 .drops-size; near-size = near-kept d; far-size = far-kept d })))
+    (p .0, (p .1 .0, record { drops-size = c .before .before .before .before .before .before .guess .kept .1 .1 .1 .0 ∙ p .1 .1 .drops-size; near-size = near-kept d; far-size = p .1 .1 .far-size })))
     (λ c. c .before .before .before .before .before .before .before .before .before .before .guess .kept .1 .1 .1 .0)
-    (λ c. let d = c .before .before .before .before .before .before .before .before .before .before .before .before .before .before .before .before .before in c .before .before .before .repeat .kept .1 .1 .1 .1 .1 .1 .1 .1 .1 .0 ∙ (near-kept d ∙ sym (start d .pre .1 .1 .near-size)))
-    (λ c. let d = c .before .before .before .before .before .before .before .before .before .before .before .before .before .before .before .before .before in c .before .before .before .repeat .kept .1 .1 .1 .1 .1 .1 .1 .1 .1 .1 .0 ∙ (far-kept d ∙ sym (start d .pre .1 .1 .far-size)))
+    (λ c. let d = c .before .before .before .before .before .before .before .before .before .before .before .before .before .before .before in c .before .before .before .repeat .kept .1 .1 .1 .1 .1 .1 .1 .1 .1 .0 ∙ (near-kept d ∙ sym (start d .pre .1 .1 .near-size)))
+    (λ c. c .before .before .before .repeat .kept .1 .1 .1 .1 .1 .1 .1 .1 .1 .1 .0)
     (λ c. c .before .before .before .repeat .kept .1 .1 .1 .1 .1 .1 .1 .1 .1 .1 .1 .0)
-    (λ c. let d = c .before .before .before .before .before .before .before .before .before .before .before .before .before .before .before .before .before in rw (toZ-ofZ (start d .fits .f)) at (c .before .before .before .repeat .ensures)))
+    (λ c. rw (toZ-ofZ (start (c .before .before .before .before .before .before .before .before .before .before .before .before .before .before .before) .fits .f)) at (c .before .before .before .repeat .ensures)))

@@ -16,25 +16,21 @@ use Rattle.jump.proofs.leaping.repeat.Statement.{statement}
 use Rattle.jump.proofs.leaping.repeat.Tie as tie
 
 abbrev Inv-loop : tie.InvT-loop
-Inv-loop xs ys zs ks count f passes most drops near₀ far₀ times₀ s₀ t₀ near far times s t = Leaping (rulesOf xs ys zs ks count) (toZ w32 f) times₀ s₀ drops near far times s
+Inv-loop xs ys zs ks count f passes most drops near₀ far₀ times₀ first s₀ t₀ near far times s t = Leaping (rulesOf xs ys zs ks count) (toZ w32 f) times₀ s₀ drops near far times s
 
 abbrev μ-loop : tie.MeasureT-loop
-μ-loop xs ys zs ks count f passes most drops near₀ far₀ times₀ s₀ t₀ near far times s t = t
+μ-loop xs ys zs ks count f passes most drops near₀ far₀ times₀ first s₀ t₀ near far times s t = t
 
 abbrev start : tie.After-leap Inv-loop μ-loop → tie.Start Inv-loop μ-loop
-start c = c .before .before .before .before .before .before .before .before
+start c = c .before .before .before .before .before .before .before .before .before
 
 abbrev rules : tie.After-leap Inv-loop μ-loop → List Rule
 rules c = let a = start c .args in rulesOf (now (a .xs)) (now (a .ys)) (now (a .zs)) (now (a .ks)) (a .count)
 
 abbrev first : tie.At-loop Inv-loop μ-loop → tie.After-leap Inv-loop μ-loop
-first l = l .before .before .before .before .before .before
+first l = l .before .before .before .before .before
 
--- the steps of the first two and of those since, at the floor as it was given
-passed-first : (c : tie.After-leap Inv-loop μ-loop) → Passed (rules c) (start c .args .f) (now (start c .args .times)) (c .leap .last .1 .1 .1 .1 .1 .1 .1 .1 .1 .1 .1 .0) (c .leap .result)
-passed-first c =
-    subst (λ (v : ℤ). Passed (rules c) v (now (start c .args .times)) (c .leap .last .1 .1 .1 .1 .1 .1 .1 .1 .1 .1 .1 .0) (c .leap .result)) (toZ-ofZ (start c .fits .f)) (c .leap .ensures .passed)
-
+-- the steps of the first and of those since, at the floor as it was given
 passed : (l : tie.At-loop Inv-loop μ-loop) → Passed (rules (first l)) (start (first l) .args .f) (now (start (first l) .args .times)) (l .loop .times) (l .loop .s)
 passed l =
     let c = first l in
@@ -69,12 +65,9 @@ repeat-spec =
     Inv-loop
     μ-loop
     (λ c κs. search needs)
-    (λ c. near-was (c .before .before .before .before))
-    (λ c. far-was (c .before .before .before .before))
-    (λ c. times-was (c .before .before .before .before))
-    (λ c. passed-first (c .before .before .before .before))
     (λ c κs. search needs)
-    (λ c. let d = c .before .before .before .before .before in
+    (λ c κs. search needs)
+    (λ c. let d = c .before .before .before .before in
     let n = start d .pre .1 .1 in
     let e = sym (times-was d) in
     record {
