@@ -37,11 +37,13 @@ fn period(marks: &[u16], seen: usize, mask: u16) -> usize
     0
 }
 
-// How the watch stands: the steps it took at once, the marks seen, and how many to see before the next look.
+// How the watch stands: the steps it took at once, the marks seen, how many to see before the next look, and how many passes to let
+// go unwatched.
 pub struct Watched {
     pub steps: u64,
     pub seen: usize,
     pub look: usize,
+    pub rest: usize,
 }
 
 fn later(look: usize) -> usize {
@@ -58,8 +60,69 @@ fn other(p: usize, q: usize) -> usize {
     if p == q { 0 } else { q }
 }
 
-// After a pass with mark `m`: notes it, and now and then looks for passes that repeat and jumps. They may repeat to the minute, or,
-// in the low half of the marks, in which rules they step on.
+// How the watch goes on after a look: from the start after a jump; else it looks later, and where the passes make more than a few
+// steps, as many again go unwatched, since watching costs time for each step.
+fn looked(steps: u64, p: usize, few: bool, seen: usize, look: usize) -> Watched
+    ensures { λ r. ⌜ r .steps ≡ steps ⌝ }
+{
+    if 0 < steps {
+        return Watched {
+            steps: steps,
+            seen: 0,
+            look: first_look(p),
+            rest: 0,
+        };
+    }
+    if few {
+        return Watched {
+            steps: steps,
+            seen: seen,
+            look: later(look),
+            rest: 0,
+        };
+    }
+    Watched {
+        steps: steps,
+        seen: 0,
+        look: later(look),
+        rest: later(look),
+    }
+}
+
+// Looks for passes that repeat, and jumps. They may repeat to the minute, or, in the low half of the marks, in their steps.
+fn look_back(
+    xs: &[u16],
+    ys: &[u16],
+    zs: &[u16],
+    ks: &[i32],
+    count: usize,
+    f: i32,
+    few: bool,
+    seen: usize,
+    look: usize,
+    marks: &[u16],
+    drops: &mut [u32],
+    near: &mut [i32],
+    far: &mut [i32],
+    times: &mut [i32],
+) -> Watched
+    requires { ⌜ Columns (now xs) (now ys) (now zs) (now ks) count ⌝ }
+    requires { ⌜ NamedAll (rulesOf (now xs) (now ys) (now zs) (now ks) count) (length (now times)) (length (now times)) ⌝ }
+    requires { ⌜ Sized (length (now times)) (now drops) (now near) (now far) ⌝ }
+    requires { ⌜ seen ≤ length (now marks) ⌝ }
+    ensures { λ r. ⌜ Passed (rulesOf (now (xs .entry)) (now (ys .entry)) (now (zs .entry)) (now (ks .entry)) count) f (now (times .entry)) (now (times .exit)) (r .steps) ⌝ }
+{
+    let p = period(marks, seen, 65535);
+    let k = leaps(xs, ys, zs, ks, count, f, p, drops, near, far, times);
+    if 0 < k {
+        return looked(k, p, few, seen, look);
+    }
+    let q = other(p, period(marks, seen, 255));
+    let j = leaps(xs, ys, zs, ks, count, f, q, drops, near, far, times);
+    looked(j, q, few, seen, look)
+}
+
+// After a pass with mark `m`, of a few steps or more: notes it, and now and then looks back.
 pub fn watch(
     xs: &[u16],
     ys: &[u16],
@@ -67,6 +130,8 @@ pub fn watch(
     ks: &[i32],
     count: usize,
     f: i32,
+    rest: usize,
+    few: bool,
     seen: usize,
     look: usize,
     m: u16,
@@ -81,11 +146,20 @@ pub fn watch(
     requires { ⌜ Sized (length (now times)) (now drops) (now near) (now far) ⌝ }
     ensures { λ r. ⌜ Passed (rulesOf (now (xs .entry)) (now (ys .entry)) (now (zs .entry)) (now (ks .entry)) count) f (now (times .entry)) (now (times .exit)) (r .steps) ⌝ }
 {
+    if 0 < rest {
+        return Watched {
+            steps: 0,
+            seen: 0,
+            look: look,
+            rest: rest - 1,
+        };
+    }
     if marks.len() <= seen {
         return Watched {
             steps: 0,
             seen: 0,
             look: 16,
+            rest: 0,
         };
     }
     marks[seen] = m;
@@ -95,29 +169,23 @@ pub fn watch(
             steps: 0,
             seen: now,
             look: look,
+            rest: 0,
         };
     }
-    let p = period(marks, now, 65535);
-    let k = leaps(xs, ys, zs, ks, count, f, p, drops, near, far, times);
-    if 0 < k {
-        return Watched {
-            steps: k,
-            seen: 0,
-            look: first_look(p),
-        };
-    }
-    let q = other(p, period(marks, now, 255));
-    let j = leaps(xs, ys, zs, ks, count, f, q, drops, near, far, times);
-    if 0 < j {
-        return Watched {
-            steps: j,
-            seen: 0,
-            look: first_look(q),
-        };
-    }
-    Watched {
-        steps: j,
-        seen: now,
-        look: later(look),
-    }
+    look_back(
+        xs,
+        ys,
+        zs,
+        ks,
+        count,
+        f,
+        few,
+        now,
+        look,
+        marks,
+        drops,
+        near,
+        far,
+        times,
+    )
 }

@@ -58,6 +58,15 @@ module _ {xs ys zs : List ℕ} {ks : List ℤ} {count from to : ℕ} {words : Li
                 (settled-low (g .settled r q) r (ap (λ (t : Rule). satisfied t b) at ∙ broken) (rw at named) (left ∙ ap (λ (t : Rule). set b (t .z) (leftSide t b)) (sym at)));
           }
 
+      -- without a word for its job, a step is not noted
+      pub parting-unnoted : ltZ (leftSide rule b) (floor rules) ≡ false → length words ≤ rule .z → Parting xs ys zs ks count from to words b₀ s₀ m₀ b′ (s + 1) m (i + 1)
+      parting-unnoted up none =
+          record {
+            low = omega arith;
+            going = going-low (g .going) (omega arith) broken left up;
+            settled = λ r q. absurd (omega (arith, none, ap (λ (t : Rule). t .z) at, r .lowered i (omega (arith, rows-length xs ys zs ks 0 count))));
+          }
+
       pub parting-fell : ltZ (leftSide rule b) (floor rules) ≡ true → (out : PassOut) → out .steps ≡ s + 1 → out .fell ≡ true → out .job ≡ rule .z →
           Parted xs ys zs ks count from to b₀ s₀ b′ out
       parting-fell low out e t q =

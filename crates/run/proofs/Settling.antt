@@ -98,8 +98,9 @@ indexing-next {rules = rules} {words = words} {i = i} g a b =
       second = below-more _ i (λ j h. b .kept _ _ (a .kept _ _ (g .second j h))) (b .new);
     }
 
-pub indexed : {rules : List Rule} {size : ℕ} {words : List ℕ} {i : ℕ} → Indexing rules size words i → length rules ≤ i → Reads rules words
-indexed g h = record { first = λ j l. g .first j (omega arith); second = λ j l. g .second j (omega arith) }
+pub indexed : {rules : List Rule} {size : ℕ} {words : List ℕ} {i : ℕ} → Indexing rules size words i → length rules ≤ i → ((j : ℕ) → j < length rules → ruleAt rules j .z < size) → Reads rules words
+indexed g h named =
+    record { first = λ j l. g .first j (omega arith); second = λ j l. g .second j (omega arith); lowered = λ j l. omega (arith, named j l, g .sized) }
 
 -- a rule that does not read the lowered job, and is satisfied or stepped on, is satisfied after the step
 module _ (r : Rule) (times : List ℤ) (z : ℕ) (v : ℤ) (p : r .x ≡ z → ⊥) (q : r .y ≡ z → ⊥) where

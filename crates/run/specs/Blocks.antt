@@ -19,10 +19,11 @@ pub record Marking (words : List ℕ) (job block : ℕ) (words′ : List ℕ) : 
   pub kept : (q b : ℕ) → Marked (getD words q 0) b → Marked (getD words′ q 0) b
   pub new : Marked (getD words′ job 0) block
 
--- each job's word marks the blocks of the rules that read it
+-- each job's word marks the blocks of the rules that read it, and each job that a rule lowers has one
 pub record Reads (rules : List Rule) (words : List ℕ) : Type 0 where
   pub first : (j : ℕ) → j < length rules → Marked (getD words (ruleAt rules j .x) 0) (j / 16)
   pub second : (j : ℕ) → j < length rules → Marked (getD words (ruleAt rules j .y) 0) (j / 16)
+  pub lowered : (j : ℕ) → j < length rules → ruleAt rules j .z < length words
 
 -- a violated rule, before one or from another on, is in a marked block
 pub record Settled (rules : List Rule) (times : List ℤ) (marked from to : ℕ) : Type 0 where

@@ -41,11 +41,19 @@ fn few(steps: u64, count: usize) -> bool {
     steps < (count as u64) / 8
 }
 
-// The marks are to be trusted, since no jump changed the times, and worth it.
-fn is_sparse(jumped: u64, steps: u64, count: usize) -> bool
-    ensures { λ r. ⌜ (r ≡ true → jumped ≡ 0) ⌝ }
+// The marks are to be trusted, since the pass was noted and no jump changed the times, and worth it.
+fn is_sparse(noted: bool, jumped: u64, steps: u64, count: usize) -> bool
+    ensures { λ r. ⌜ (r ≡ true → (noted ≡ true) × (jumped ≡ 0)) ⌝ }
 {
-    if 0 < jumped { false } else { few(steps, count) }
+    if 0 < jumped {
+        return false;
+    }
+    if noted { few(steps, count) } else { false }
+}
+
+// How many passes are still to go unnoted: none where they make few steps.
+fn unnoted(rest: usize, steps: u64, count: usize) -> usize {
+    if few(steps, count) { 0 } else { rest }
 }
 
 // The rest of a run that is long: each pass is watched, and passes that repeat are taken at once.
@@ -76,8 +84,23 @@ fn finish(
     let mut marked: u64 = 0;
     let mut seen: usize = 0;
     let mut look: usize = 16;
+    let mut rest: usize = 0;
     loop {
-        let p = pass(xs, ys, zs, ks, count, f, words, sparse, marked, times, s);
+        let noted = rest < 1;
+        let p = pass(
+            xs,
+            ys,
+            zs,
+            ks,
+            count,
+            f,
+            words,
+            noted,
+            sparse,
+            marked,
+            times,
+            s,
+        );
         let fell = p.fell;
         let made = p.steps;
         if fell {
@@ -94,6 +117,8 @@ fn finish(
             ks,
             count,
             f,
+            rest,
+            few(new, count),
             seen,
             look,
             mark(new, p.last, p.minutes),
@@ -103,11 +128,12 @@ fn finish(
             far,
             times,
         );
-        sparse = is_sparse(w.steps, new, count);
+        sparse = is_sparse(noted, w.steps, new, count);
         marked = p.marked;
         s = made + w.steps;
         seen = w.seen;
         look = w.look;
+        rest = unnoted(w.rest, new, count);
     }
 }
 
@@ -228,7 +254,20 @@ fn solve_checked(
     let mut s: u64 = 0;
     let mut i: usize = 0;
     while i < most {
-        let p = pass(xs, ys, zs, ks, count, f, &no_words[..], false, 0, times, s);
+        let p = pass(
+            xs,
+            ys,
+            zs,
+            ks,
+            count,
+            f,
+            &no_words[..],
+            false,
+            false,
+            0,
+            times,
+            s,
+        );
         let fell = p.fell;
         let steps = p.steps;
         if fell {

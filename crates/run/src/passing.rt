@@ -2,7 +2,7 @@
 ghost use mathlib.Core.Path.{_≡_};
 ghost use mathlib.Core.Bool.{Bool, true, false};
 ghost use Prim.Native.Nat.{ℕ, _+_, _*_, _<_, _≤_, min};
-ghost use lib.ListN.{length, getD};
+ghost use lib.ListN.{length};
 ghost use lib.IntN.{ℤ};
 ghost use Rattle.maxatom.specs.Book.{floor};
 ghost use Rattle.derivation.specs.Run.{pass};
@@ -31,14 +31,8 @@ fn weighed(minutes: u64, rule: usize) -> u64 {
     (minutes % 4294967296) * ((rule as u64) % 1024 + 1)
 }
 
-// The blocks that read a job; none where there is no word for it.
-fn readers(words: &[u64], job: usize) -> u64
-    ensures { λ r. ⌜ r ≡ getD (now (words .entry)) job 0 ⌝ }
-{
-    if job < words.len() { words[job] } else { 0 }
-}
-
 // The rules of a pass from one to before another: a step on each violated one, and an end at once when a time falls below the floor.
+// Where there are words, each step is noted: the blocks that read its job are marked.
 fn part(
     xs: &[u16],
     ys: &[u16],
@@ -85,10 +79,14 @@ fn part(
                     minutes: 0,
                 };
             }
-            m = m | readers(words, z);
-            a = i;
-            g = g ^ weighed(off, i);
-            i += 1;
+            if z < words.len() {
+                m = m | words[z];
+                a = i;
+                g = g ^ weighed(off, i);
+                i += 1;
+            } else {
+                i += 1;
+            }
         }
     }
     PassOut {
@@ -179,7 +177,7 @@ fn pass_marked(
     }
 }
 
-// One pass: over the marked blocks where the marks are to be trusted, else over all rules.
+// One pass: over the marked blocks where the marks are to be trusted, else over all rules, noted or not.
 pub fn pass(
     xs: &[u16],
     ys: &[u16],
@@ -188,6 +186,7 @@ pub fn pass(
     count: usize,
     f: i32,
     words: &[u64],
+    noted: bool,
     sparse: bool,
     marked: u64,
     times: &mut [i32],
@@ -198,10 +197,28 @@ pub fn pass(
     requires { ⌜ f ≡ floor (rulesOf (now xs) (now ys) (now zs) (now ks) count) ⌝ }
     requires { ⌜ (sparse ≡ true → Tracked (rulesOf (now xs) (now ys) (now zs) (now ks) count) (now words) (now times) marked) ⌝ }
     ensures { λ r. ⌜ runOf r (now (times .exit)) ≡ pass f (rulesOf (now (xs .entry)) (now (ys .entry)) (now (zs .entry)) (now (ks .entry)) count) (now (times .entry)) steps ⌝ }
-    ensures { λ r. ⌜ (Reads (rulesOf (now (xs .entry)) (now (ys .entry)) (now (zs .entry)) (now (ks .entry)) count) (now (words .entry)) → r .fell ≡ false → Settled (rulesOf (now (xs .entry)) (now (ys .entry)) (now (zs .entry)) (now (ks .entry)) count) (now (times .exit)) (r .marked) 0 0) ⌝ }
+    ensures { λ r. ⌜ (Reads (rulesOf (now (xs .entry)) (now (ys .entry)) (now (zs .entry)) (now (ks .entry)) count) (now (words .entry)) → noted ≡ true → r .fell ≡ false → Settled (rulesOf (now (xs .entry)) (now (ys .entry)) (now (zs .entry)) (now (ks .entry)) count) (now (times .exit)) (r .marked) 0 0) ⌝ }
 {
     if sparse {
         return pass_marked(xs, ys, zs, ks, count, f, words, marked, times, steps);
+    }
+    if noted {
+        return part(
+            xs,
+            ys,
+            zs,
+            ks,
+            count,
+            0,
+            count,
+            f,
+            words,
+            steps,
+            0,
+            0,
+            0,
+            times,
+        );
     }
     part(
         xs,
@@ -212,7 +229,7 @@ pub fn pass(
         0,
         count,
         f,
-        words,
+        &words[..0],
         steps,
         0,
         0,

@@ -22,11 +22,11 @@ use Rattle.run.proofs.finish.Statement.{statement}
 use Rattle.run.proofs.finish.Tie as tie
 
 abbrev Inv-loop : tie.InvT-loop
-Inv-loop xs ys zs ks count f steps words marks₀ drops₀ near₀ far₀ times₀ s₀ sparse₀ marked₀ seen₀ look₀ marks drops near far times s sparse marked seen look =
+Inv-loop xs ys zs ks count f steps words marks₀ drops₀ near₀ far₀ times₀ s₀ sparse₀ marked₀ seen₀ look₀ rest₀ marks drops near far times s sparse marked seen look rest =
     Watching (length times₀) (rulesOf xs ys zs ks count) (length marks₀) marks drops near far times s sparse marked
 
 abbrev μ-loop : tie.MeasureT-loop
-μ-loop xs ys zs ks count f steps words marks₀ drops₀ near₀ far₀ times₀ s₀ sparse₀ marked₀ seen₀ look₀ marks drops near far times s sparse marked seen look =
+μ-loop xs ys zs ks count f steps words marks₀ drops₀ near₀ far₀ times₀ s₀ sparse₀ marked₀ seen₀ look₀ rest₀ marks drops near far times s sparse marked seen look rest =
     passBound (length times₀) (rulesOf xs ys zs ks count) - s
 
 abbrev start : tie.At-loop Inv-loop μ-loop → tie.Start Inv-loop μ-loop
@@ -42,11 +42,11 @@ abbrev at : tie.After-pass Inv-loop μ-loop → tie.At-loop Inv-loop μ-loop
 at c = c .before .before
 
 -- what the pass made
-said : (c : tie.After-pass Inv-loop μ-loop) → runOf (c .pass .result) (c .pass .last .1 .1 .1 .1 .1 .1 .1 .1 .1 .0) ≡ pass (floor (rules (at c))) (rules (at c)) (at c .loop .times) (at c .loop .s)
+said : (c : tie.After-pass Inv-loop μ-loop) → runOf (c .pass .result) (c .pass .last .1 .1 .1 .1 .1 .1 .1 .1 .1 .1 .0) ≡ pass (floor (rules (at c))) (rules (at c)) (at c .loop .times) (at c .loop .s)
 said c = rw (floor-is (at c)) at (c .pass .ensures .0)
 
-size : (c : tie.After-pass Inv-loop μ-loop) → length (c .pass .last .1 .1 .1 .1 .1 .1 .1 .1 .1 .0) ≡ length (now (start (at c) .args .times))
-size c = c .pass .kept .1 .1 .1 .1 .1 .1 .1 .1 .1 .0 ∙ size-of (at c .loop .inv .looping .running)
+size : (c : tie.After-pass Inv-loop μ-loop) → length (c .pass .last .1 .1 .1 .1 .1 .1 .1 .1 .1 .1 .0) ≡ length (now (start (at c) .args .times))
+size c = c .pass .kept .1 .1 .1 .1 .1 .1 .1 .1 .1 .1 .0 ∙ size-of (at c .loop .inv .looping .running)
 
 -- the lengths are as they were
 module _ (l : tie.At-loop Inv-loop μ-loop) where
@@ -62,21 +62,21 @@ module _ (l : tie.At-loop Inv-loop μ-loop) where
 -- after the watch: the pass before it, which neither fell nor stood still, and the steps taken at once
 module _ (c : tie.After-watch Inv-loop μ-loop) where
   abbrev passing : tie.After-pass Inv-loop μ-loop
-  passing = c .before .before .before .before .before .before .before .before .before .before
+  passing = c .before .before .before .before .before .before .before .before .before .before .before
 
   abbrev inv : Watching (length (now (start (at passing) .args .times))) (rules (at passing)) (length (now (start (at passing) .args .marks))) (at passing .loop .marks) (at passing .loop .drops) (at passing .loop .near) (at passing .loop .far) (at passing .loop .times) (at passing .loop .s) (at passing .loop .sparse) (at passing .loop .marked)
   inv = at passing .loop .inv
 
   stands : passing .pass .result .fell ≡ false
-  stands = c .before .before .before .before .before .before .before .before .if1 .left
+  stands = c .before .before .before .before .before .before .before .before .before .if1 .left
 
   moved : passing .pass .result .steps ≡ at passing .loop .s → ⊥
-  moved = c .before .before .before .before .before .before .before .if2 .left
+  moved = c .before .before .before .before .before .before .before .before .if2 .left
 
-  taken : Passed (rules (at passing)) (floor (rules (at passing))) (passing .pass .last .1 .1 .1 .1 .1 .1 .1 .1 .1 .0) (c .watch .last .1 .1 .1 .1 .1 .1 .1 .1 .1 .1 .1 .1 .1 .0) (c .watch .result .steps)
+  taken : Passed (rules (at passing)) (floor (rules (at passing))) (passing .pass .last .1 .1 .1 .1 .1 .1 .1 .1 .1 .1 .0) (c .watch .last .1 .1 .1 .1 .1 .1 .1 .1 .1 .1 .1 .1 .1 .1 .1 .0) (c .watch .result .steps)
   taken = rw (floor-is (at passing)) at (c .watch .ensures)
 
-  again : Looping (length (now (start (at passing) .args .times))) (rules (at passing)) (c .watch .last .1 .1 .1 .1 .1 .1 .1 .1 .1 .1 .1 .1 .1 .0) (passing .pass .result .steps + c .watch .result .steps)
+  again : Looping (length (now (start (at passing) .args .times))) (rules (at passing)) (c .watch .last .1 .1 .1 .1 .1 .1 .1 .1 .1 .1 .1 .1 .1 .1 .1 .0) (passing .pass .result .steps + c .watch .result .steps)
   again = watched (inv .looping) (passing .pass .result) (said passing) stands moved taken
 
 pub finish-spec : {M : Type 1} → statement M
@@ -104,20 +104,24 @@ finish-spec =
     (λ c. size (c .before .before .before))
     (λ c. let d = c .before .before .before in
     solved-still (at d .loop .inv .looping) (d .pass .result) _ (said d) (c .before .if1 .left) (c .if2 .taken))
-    (λ c. let d = c .before .before .before in omega (arith, looping-more (at d .loop .inv .looping) (runOf (d .pass .result) (d .pass .last .1 .1 .1 .1 .1 .1 .1 .1 .1 .0)) (said d)))
+    (λ c. let d = c .before .before .before in omega (arith, looping-more (at d .loop .inv .looping) (runOf (d .pass .result) (d .pass .last .1 .1 .1 .1 .1 .1 .1 .1 .1 .1 .0)) (said d)))
     (λ c κs. search needs)
-    (λ c κs. let d = c .before .before .before .before .before .before .before .before .before in
+    (λ c κs. search needs)
+    (λ c κs. let d = c .before .before .before .before .before .before .before .before .before .before in
     let v = at d .loop .inv in
     (start (at d) .pre .0, rw (size d) (named-all (v .looping .running .accepted) _ (omega arith), v .sized)))
     (λ c κs. search needs)
     (λ c. let k = c .before .before .before .before .before .before .before .before .before in omega (arith, few-fit (again k .running)))
-    (λ c. let k = c .before .before .before .before .before .before .before .before .before in watched-less (inv k .looping) (passing k .pass .result) (said (passing k)) (stands k) (moved k) (taken k))
-    (λ c. let k = c .before .before .before .before .before .before .before .before .before in
+    (λ c κs. search needs)
+    (λ c. let k = c .before .before .before .before .before .before .before .before .before .before in watched-less (inv k .looping) (passing k .pass .result) (said (passing k)) (stands k) (moved k) (taken k))
+    (λ c. let k = c .before .before .before .before .before .before .before .before .before .before in
     let n = k .watch .kept in
     let z = inv k .sized in
     record {
       looping = again k;
-      settled = λ e. still-settled (taken k) (c .before .is-sparse .ensures e) (passing k .pass .ensures .1 (start (at (passing k)) .pre .1 .1 .1 .0) (stands k));
-      marks-size = n .1 .1 .1 .1 .1 .1 .1 .1 .1 .0 ∙ inv k .marks-size;
-      sized = record { drops-size = n .1 .1 .1 .1 .1 .1 .1 .1 .1 .1 .0 ∙ z .drops-size; near-size = n .1 .1 .1 .1 .1 .1 .1 .1 .1 .1 .1 .0 ∙ z .near-size; far-size = n .1 .1 .1 .1 .1 .1 .1 .1 .1 .1 .1 .1 .0 ∙ z .far-size };
+      settled = λ e.
+          let q = c .before .before .is-sparse .ensures e in
+          still-settled (taken k) (q .1) (passing k .pass .ensures .1 (start (at (passing k)) .pre .1 .1 .1 .0) (q .0) (stands k));
+      marks-size = n .1 .1 .1 .1 .1 .1 .1 .1 .1 .1 .1 .0 ∙ inv k .marks-size;
+      sized = record { drops-size = n .1 .1 .1 .1 .1 .1 .1 .1 .1 .1 .1 .1 .0 ∙ z .drops-size; near-size = n .1 .1 .1 .1 .1 .1 .1 .1 .1 .1 .1 .1 .1 .0 ∙ z .near-size; far-size = n .1 .1 .1 .1 .1 .1 .1 .1 .1 .1 .1 .1 .1 .1 .0 ∙ z .far-size };
     }))

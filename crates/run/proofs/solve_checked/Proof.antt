@@ -51,13 +51,13 @@ module _ (c : tie.After-pass Inv-loop μ-loop) where
   abbrev at : tie.At-loop Inv-loop μ-loop
   at = c .before .before .before .before
 
-  said : runOf (c .pass .result) (c .pass .last .1 .1 .1 .1 .1 .1 .1 .1 .1 .0) ≡ pass (floor (rules (start (floor-at at)))) (rules (start (floor-at at))) (at .loop .times) (at .loop .s)
+  said : runOf (c .pass .result) (c .pass .last .1 .1 .1 .1 .1 .1 .1 .1 .1 .1 .0) ≡ pass (floor (rules (start (floor-at at)))) (rules (start (floor-at at))) (at .loop .times) (at .loop .s)
   said = rw (floor-is (floor-at at)) at (c .pass .ensures .0)
 
-  size : length (c .pass .last .1 .1 .1 .1 .1 .1 .1 .1 .1 .0) ≡ length (now (start (floor-at at) .args .times))
-  size = c .pass .kept .1 .1 .1 .1 .1 .1 .1 .1 .1 .0 ∙ size-at at
+  size : length (c .pass .last .1 .1 .1 .1 .1 .1 .1 .1 .1 .1 .0) ≡ length (now (start (floor-at at) .args .times))
+  size = c .pass .kept .1 .1 .1 .1 .1 .1 .1 .1 .1 .1 .0 ∙ size-at at
 
-  next : c .pass .result .fell ≡ false → (c .pass .result .steps ≡ at .loop .s → ⊥) → Looping (length (at .before .before .before .clear .last .0)) (rules (start (floor-at at))) (c .pass .last .1 .1 .1 .1 .1 .1 .1 .1 .1 .0) (c .pass .result .steps)
+  next : c .pass .result .fell ≡ false → (c .pass .result .steps ≡ at .loop .s → ⊥) → Looping (length (at .before .before .before .clear .last .0)) (rules (start (floor-at at))) (c .pass .last .1 .1 .1 .1 .1 .1 .1 .1 .1 .1 .0) (c .pass .result .steps)
   next e q = solved-next (at .loop .inv) (c .pass .result) _ said e q
 
 pub solve-checked-spec : {M : Type 1} → statement M
@@ -81,10 +81,10 @@ solve-checked-spec =
     (λ c. size (c .before .before .before))
     (λ c. let d = c .before .before .before in
     rw (cleared (at d)) at (solved-still (at d .loop .inv) (d .pass .result) _ (said d) (c .before .if1 .left) (c .if2 .taken)))
-    (λ c. let d = c .before .before .before in omega (arith, looping-more (at d .loop .inv) (runOf (d .pass .result) (d .pass .last .1 .1 .1 .1 .1 .1 .1 .1 .1 .0)) (said d)))
+    (λ c. let d = c .before .before .before in omega (arith, looping-more (at d .loop .inv) (runOf (d .pass .result) (d .pass .last .1 .1 .1 .1 .1 .1 .1 .1 .1 .1 .0)) (said d)))
     (λ c κs. search needs)
     (λ c κs. let d = c .before .before .before .before .before .before in
-    (start (floor-at (at d)) .pre .0, (rw (c .before .before .before .before .before .before .pass .kept .1 .1 .1 .1 .1 .1 .1 .1 .1 .0 ∙ size-of (at d .loop .inv .running)) (next d (c .before .before .before .before .if1 .left) (c .before .before .before .if2 .left)), floor-is (floor-at (at d)))))
+    (start (floor-at (at d)) .pre .0, (rw (c .before .before .before .before .before .before .pass .kept .1 .1 .1 .1 .1 .1 .1 .1 .1 .1 .0 ∙ size-of (at d .loop .inv .running)) (next d (c .before .before .before .before .if1 .left) (c .before .before .before .if2 .left)), floor-is (floor-at (at d)))))
     (λ c. c .before .finish-long .kept .1 .1 .1 .1 .1 .1 .1 .0 ∙ size (c .before .before .before .before .before .before .before .before))
     (λ c. rw (size (c .before .before .before .before .before .before .before .before)) at (c .before .finish-long .ensures))
     (λ c. search needs)

@@ -54,4 +54,4 @@ index-spec =
     indexing-next {words′ = c .before .before .before .before .before .before .before .mark .last .0} (l .loop .inv) (rw at (c .before .before .before .before .before .before .before .mark .ensures)) (rw at (c .before .before .mark2 .ensures)))
     (λ c. c .before .loop .inv .sized)
     (λ c. let a = start (c .before) .args in
-    indexed (c .before .loop .inv) (omega (arith, rows-length (now (a .xs)) (now (a .ys)) (now (a .zs)) (now (a .ks)) 0 (a .count), c .loop-test .left))))
+    indexed (c .before .loop .inv) (omega (arith, rows-length (now (a .xs)) (now (a .ys)) (now (a .zs)) (now (a .ks)) 0 (a .count), c .loop-test .left)) (λ j l. start (c .before) .pre .1 .1 .in-near j l .third)))

@@ -20,7 +20,7 @@ use Rattle.table.specs.Columns.{ruleOf, rulesOf}
 use Rattle.solver.specs.Replies.{Named}
 use Rattle.solver.proofs.Laws.{named}
 use Rattle.run.proofs.Runs.{size-of, few-fit, lowerable-here}
-use Rattle.run.proofs.Parts.{Parting, parting-none, parting-kept, parting-low, parting-fell, parting-all, parting-settled}
+use Rattle.run.proofs.Parts.{Parting, parting-none, parting-kept, parting-low, parting-unnoted, parting-fell, parting-all, parting-settled}
 use Rattle.run.proofs.passing.part.Statement.{statement}
 use Rattle.run.proofs.passing.part.Tie as tie
 
@@ -116,14 +116,20 @@ part-spec =
       parting-fell (at e .loop .inv) (within (at e)) (has e) (broken e) (lowered l) (falls (c .before) true (c .if2 .taken)) _ refl refl (ap (λ (r : Rule). r .z) (read-is e)),
       λ r q f. absurd (true≢false f),
     ))
-    (λ c κs. search needs)
+    (λ c. search needs)
+    (λ c. search needs)
     (λ c κs. search needs)
     (λ c. search needs)
     (λ c. search needs)
-    (λ c. let l = c .before .before .before .before .before .before in
+    (λ c. let l = c .before .before .before .before .before .before .before in
     let e = l .before .before in
-    parting-low (at e .loop .inv) (within (at e)) (has e) (broken e) (lowered l) (falls (c .before .before .before) false (c .before .before .if2 .left)) (names (at e) (has e) .third)
-    (c .before .readers .ensures ∙ ap (λ (r : Rule). getD (now (start (at e) .args .words)) (r .z) 0) (read-is e)))
+    parting-low (at e .loop .inv) (within (at e)) (has e) (broken e) (lowered l) (falls (c .before .before .before .before) false (c .before .before .before .if2 .left)) (names (at e) (has e) .third)
+    (ap (λ (r : Rule). getD (now (start (at e) .args .words)) (r .z) 0) (read-is e)))
+    (λ c. search needs)
+    (λ c. search needs)
+    (λ c. let l = c .before .before .before .before .before in
+    let e = l .before .before in
+    parting-unnoted (at e .loop .inv) (within (at e)) (has e) (broken e) (lowered l) (falls (c .before .before) false (c .before .if2 .left)) (rw (read-is e) at (c .if3 .left)))
     (λ c. size-of (c .before .loop .inv .going .running))
     (λ c. let l = c .before in
     let v = l .loop .inv in
