@@ -30,7 +30,7 @@ fn is_earlier(t: i32, early: i32, minutes: u64) -> bool
     if e <= w { w <= e } else { false }
 }
 
-pub fn wide(x: u32) -> u64
+fn wide(x: u32) -> u64
     ensures { λ r. ⌜ (r ≡ x) × (r < 2 ^ 32) ⌝ }
 {
     x as u64
@@ -133,7 +133,7 @@ fn leap(
 }
 
 // The minutes from a time down to an earlier one.
-pub fn fall(t: i32, early: i32) -> u32 {
+fn fall(t: i32, early: i32) -> u32 {
     if early < t {
         ((t as i64) - (early as i64)) as u32
     } else {

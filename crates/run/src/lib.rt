@@ -226,7 +226,7 @@ fn pays(passes: usize, steps: u64, count: usize) -> bool {
     }
 }
 
-// How many passes to make before the watching, which takes some room, pays.
+// How many plain passes to make before the watching, which takes some room, pays.
 fn plain_passes(count: usize) -> usize {
     if count < 1024 {
         8192 / (count + 1) + 16
@@ -235,6 +235,7 @@ fn plain_passes(count: usize) -> usize {
     }
 }
 
+// The run of an accepted book: plain passes, and for a long run then the watched ones.
 fn solve_checked(
     xs: &[u16],
     ys: &[u16],
