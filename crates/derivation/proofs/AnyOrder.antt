@@ -12,12 +12,13 @@ use lib.Signed.{_≤ℤ_, _<ℤ_}
 use Rattle.maxatom.specs.Rule.{timeAt, leftSide, satisfied, minutesOff}
 use Rattle.maxatom.specs.Book.{Each, Accepted, InBook, AllSatisfied, Model, Plan, NotAfterZero, Under, total, floor}
 use Rattle.maxatom.specs.declared.Rule.{Rule}
+use Rattle.maxatom.specs.Clauses.{leftOf, clauseOf, clausesOf}
 use Rattle.maxatom.proofs.Choose.{clash}
 use Rattle.maxatom.proofs.Integers.{le-false, lt-make, lt-read, le-read, le-make, by-test-not}
 use Rattle.maxatom.proofs.Lists.{each-map, each-time, time-each}
-use Rattle.maxatom.proofs.Clauses.{KeepsAll, Below, leftOf}
+use Rattle.maxatom.proofs.Clauses.{KeepsAll, Below}
 use Rattle.maxatom.proofs.Derivations.{Derivation, start, step, longest, longest-high, stays-high, full, lemma-7}
-use Rattle.maxatom.proofs.Rules.{clauseOf, clausesOf, left-same, in-clauses, keeps-all, kept-all, room-zero, zero-time}
+use Rattle.maxatom.proofs.Rules.{left-same, in-clauses, keeps-all, kept-all, room-zero, zero-time}
 use Rattle.maxatom.proofs.Plans.{plan-unique}
 use Rattle.derivation.specs.Refusals.{Reply, refused, answer, accepts}
 use Rattle.derivation.specs.Step.{State, initial, noRule, ruleAt, belowFloor, stepOn, Called, stepCall}

@@ -10,11 +10,12 @@ use lib.Signed.{_≤ℤ_, _<ℤ_}
 use Rattle.maxatom.specs.Rule.{timeAt}
 use Rattle.maxatom.specs.Book.{Accepted, AllSatisfied, Model, Plan, Satisfiable, total, floor, minus}
 use Rattle.maxatom.specs.declared.Rule.{Rule}
+use Rattle.maxatom.specs.Clauses.{Assignment, clausesOf}
 use Rattle.maxatom.proofs.Integers.{up, dn, le-read, le-make, lt-read, add-parts, minus-parts}
 use Rattle.maxatom.proofs.Lists.{sumBy, sum-most}
-use Rattle.maxatom.proofs.Clauses.{Assignment, Below, lemma-1}
+use Rattle.maxatom.proofs.Clauses.{Below, lemma-1}
 use Rattle.maxatom.proofs.Derivations.{start, longest, stays-high}
-use Rattle.maxatom.proofs.Rules.{clausesOf, keeps-all, room-zero, zero-time}
+use Rattle.maxatom.proofs.Rules.{keeps-all, room-zero, zero-time}
 use Rattle.maxatom.proofs.Plans.{plan-unique, plan-at-zero}
 use Rattle.derivation.specs.Step.{State, initial, belowFloor}
 use Rattle.derivation.specs.Play.{rounds}

@@ -14,12 +14,13 @@ use borrow.Author.Tests.{leb-true, leb-false, eq-eqb, le-leb}
 use Rattle.maxatom.specs.Rule.{timeAt, leftSide, satisfied, eqZ, minutesOff}
 use Rattle.maxatom.specs.Book.{Each, Accepted, InBook, total, floor, minus}
 use Rattle.maxatom.specs.declared.Rule.{Rule}
+use Rattle.maxatom.specs.Clauses.{In, Clause, leftOf, clauseOf, clausesOf}
 use Rattle.maxatom.proofs.Choose.{clash}
 use Rattle.maxatom.proofs.Integers.{up, dn, le-read, le-make, lt-read, eq-make, add-parts, neg-parts, minus-parts, up-zero, le-true, true-le, lt-true, lt-false, false-lt, le-false, true-eq}
-use Rattle.maxatom.proofs.Lists.{In, time-each, sumBy}
-use Rattle.maxatom.proofs.Clauses.{Clause, leftOf, totalOf}
+use Rattle.maxatom.proofs.Lists.{time-each, sumBy}
+use Rattle.maxatom.proofs.Clauses.{totalOf}
 use Rattle.maxatom.proofs.Derivations.{Derivation, start, step, Setting, same-length, under-latest, few-steps, not-far, minutes-lost, floor-under}
-use Rattle.maxatom.proofs.Rules.{clauseOf, clausesOf, left-same, in-clauses, total-same, setting, zero-time}
+use Rattle.maxatom.proofs.Rules.{left-same, in-clauses, total-same, setting, zero-time}
 use Rattle.derivation.specs.declared.Tally.{Tally}
 use Rattle.derivation.specs.Refusals.{Reply, refused, answer, Check, reply, verdict, lent, timesChecks}
 use Rattle.derivation.specs.Step.{State, initial, ruleAt, inRange, belowFloor, sumZ, fits, ruleStepChecks, stepChecks, stepOn, Called, calledBy, stepCall}

@@ -9,11 +9,11 @@ use lib.IntN.{ℤ}
 use lib.Signed.{_≤ℤ_, _<ℤ_}
 use Rattle.maxatom.specs.Rule.{timeAt, leftSide, satisfied}
 use Rattle.maxatom.specs.declared.Rule.{Rule}
+use Rattle.maxatom.specs.Clauses.{leftOf, clauseOf, clausesOf}
+use Rattle.maxatom.specs.Jumps.{Walk, done, keep, lower}
 use Rattle.maxatom.proofs.Choose.{cond-yes, cond-no}
 use Rattle.maxatom.proofs.Integers.{false-le, false-lt}
-use Rattle.maxatom.proofs.Clauses.{leftOf}
-use Rattle.maxatom.proofs.Rules.{clauseOf, clausesOf, left-same, kept}
-use Rattle.maxatom.proofs.Jumps.{Walk, done, keep, lower}
+use Rattle.maxatom.proofs.Rules.{left-same, kept}
 use Rattle.derivation.specs.Run.{Run, unfinished, pass}
 
 abbrev stopped : List ℤ → ℕ → Run

@@ -17,12 +17,13 @@ use Rattle.table.proofs.Signed.{fits-make, fits-read}
 use Rattle.maxatom.specs.Rule.{timeAt, maxZ, leftSide, satisfied}
 use Rattle.maxatom.specs.Book.{Accepted, InBook, floor}
 use Rattle.maxatom.specs.declared.Rule.{Rule}
+use Rattle.maxatom.specs.Clauses.{here, there, leftOf, clauseOf, clausesOf}
+use Rattle.maxatom.specs.Jumps.{SameArm, Walk, Lockstep, done, keep, lower, Rounds, Passing, start, round}
 use Rattle.maxatom.proofs.Choose.{cond-yes, cond-no}
 use Rattle.maxatom.proofs.Integers.{up, dn, le-read, le-make, eq-make, add-parts}
-use Rattle.maxatom.proofs.Lists.{here, there, set-time}
-use Rattle.maxatom.proofs.Clauses.{leftOf}
-use Rattle.maxatom.proofs.Rules.{clauseOf, clausesOf, left-same, keeps}
-use Rattle.maxatom.proofs.Jumps.{SameArm, Walk, Lockstep, done, keep, lower, Rounds, Passing, start, round, joined, Apart, Aparts, none, next, jump}
+use Rattle.maxatom.proofs.Lists.{set-time}
+use Rattle.maxatom.proofs.Rules.{left-same, keeps}
+use Rattle.maxatom.proofs.Jumps.{joined, Apart, Aparts, none, next, jump}
 use Rattle.derivation.specs.Step.{ruleAt}
 use Rattle.derivation.specs.Run.{pass, passBound, fallen, unfinished}
 use Rattle.derivation.proofs.AnyOrder.{each-at}

@@ -8,8 +8,8 @@ use lib.IntN.{ℤ, pos, _+ℤ_}
 use lib.Signed.{_≤ℤ_, ltZ}
 use Rattle.maxatom.specs.Rule.{timeAt, leftSide, satisfied}
 use Rattle.maxatom.specs.declared.Rule.{Rule}
-use Rattle.maxatom.proofs.Rules.{clausesOf}
-use Rattle.maxatom.proofs.Jumps.{Lockstep, Rounds, Passing}
+use Rattle.maxatom.specs.Clauses.{clausesOf}
+use Rattle.maxatom.specs.Jumps.{Lockstep, Rounds, Passing}
 use Rattle.solver.specs.Replies.{Lowerable}
 use Rattle.jump.specs.declared.lockstep.Stand.{Stand}
 use Rattle.jump.specs.declared.lockstep.Stand.the-variants.{Kept, Low, Apart}

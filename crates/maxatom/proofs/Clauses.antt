@@ -8,35 +8,9 @@ use lib.IntN.{ℤ, _+ℤ_}
 use lib.Signed.{_≤ℤ_}
 use Rattle.maxatom.specs.Rule.{maxZ}
 use Rattle.maxatom.specs.Book.{Each}
+use Rattle.maxatom.specs.Clauses.{In, here, there, Arm, Clause, Assignment, armTime, greatest, leftOf, Keeps}
 use Rattle.maxatom.proofs.Integers.{up, dn, le-read, le-make, add-parts, ≤ℤ-trans, add-mono, max-cases, max-left, max-right}
-use Rattle.maxatom.proofs.Lists.{In, here, there, each-in, in-each}
-
-pub record Arm : Type 0 where
-  pub job : ℕ
-  pub offset : ℤ
-
--- weight: what the clause adds to the total of the offsets
-pub record Clause : Type 0 where
-  pub first : Arm
-  pub others : List Arm
-  pub target : ℕ
-  pub weight : ℕ
-
-abbrev pub Assignment : Type 0
-Assignment = ℕ → ℤ
-
-abbrev pub armTime : Assignment → Arm → ℤ
-armTime t a = t (a .job) +ℤ a .offset
-
-unfoldable pub greatest : Assignment → Arm → List Arm → ℤ
-greatest t a [] = armTime t a
-greatest t a (b ∷ l) = maxZ (armTime t a) (greatest t b l)
-
-abbrev pub leftOf : Assignment → Clause → ℤ
-leftOf t c = greatest t (c .first) (c .others)
-
-abbrev pub Keeps : Assignment → Clause → Type 0
-Keeps t c = t (c .target) ≤ℤ leftOf t c
+use Rattle.maxatom.proofs.Lists.{each-in, in-each}
 
 abbrev pub KeepsAll : Assignment → List Clause → Type 0
 KeepsAll t cs = Each (Keeps t) cs

@@ -11,9 +11,10 @@ use lib.IntN.{ℤ, pos, _+ℤ_}
 use lib.Signed.{_≤ℤ_, _<ℤ_, leZ}
 use Rattle.maxatom.specs.Rule.{timeAt, minutesOff}
 use Rattle.maxatom.specs.Book.{Each}
+use Rattle.maxatom.specs.Clauses.{In, here, Arm, Clause, Assignment, leftOf, Keeps, stepped}
 use Rattle.maxatom.proofs.Integers.{up, dn, le-read, le-make, lt-read, lt-make, add-parts, off-most, off-parts, le-true, le-false, ≤ℤ-trans}
-use Rattle.maxatom.proofs.Lists.{In, here, each-in, in-each, set-time, sumBy, sum-set, sum-most}
-use Rattle.maxatom.proofs.Clauses.{Arm, Clause, Assignment, leftOf, Keeps, KeepsAll, Below, Weighed, totalOf, weight-total, reached, left-mono}
+use Rattle.maxatom.proofs.Lists.{each-in, in-each, set-time, sumBy, sum-set, sum-most}
+use Rattle.maxatom.proofs.Clauses.{KeepsAll, Below, Weighed, totalOf, weight-total, reached, left-mono}
 use Rattle.maxatom.proofs.SmallModels.{Small, lemma-2}
 
 -- a clause may be stepped on: it is in the set, violated, and no job stands below the floor
@@ -21,9 +22,6 @@ pub record Due (cs : List Clause) (floor : ℤ) (times : List ℤ) (c : Clause) 
   pub among : In c cs
   pub high : (job : ℕ) → floor ≤ℤ timeAt times job
   pub violated : leftOf (timeAt times) c <ℤ timeAt times (c .target)
-
-abbrev pub stepped : List ℤ → Clause → List ℤ
-stepped times c = set times (c .target) (leftOf (timeAt times) c)
 
 abbrev pub taken : List ℤ → Clause → ℕ
 taken times c = minutesOff (timeAt times (c .target)) (leftOf (timeAt times) c)

@@ -11,10 +11,10 @@ use lib.ListN.{set}
 use lib.IntN.{ℤ, pos, _+ℤ_}
 use lib.Signed.{_≤ℤ_, _<ℤ_, leZ, ltZ}
 use Rattle.maxatom.specs.Rule.{timeAt}
+use Rattle.maxatom.specs.Clauses.{In, Arm, Clause, armTime, leftOf, Keeps, stepped}
+use Rattle.maxatom.specs.Jumps.{SameArm, Walk, Lockstep, done, keep, lower, Rounds, Passing, start, round}
 use Rattle.maxatom.proofs.Integers.{up, dn, le-read, le-make, lt-read, eq-make, add-parts, le-true, le-false, lt-true, lt-false, ≤ℤ-trans}
-use Rattle.maxatom.proofs.Lists.{In}
-use Rattle.maxatom.proofs.Clauses.{Arm, Clause, armTime, leftOf, Keeps, reaching, reached}
-use Rattle.maxatom.proofs.Derivations.{stepped}
+use Rattle.maxatom.proofs.Clauses.{reaching, reached}
 
 -- facts of integers by their parts, times p
 scaled-sum : (p : ℕ) (a k : ℤ) → p * up (a +ℤ k) + (p * dn a + p * dn k) ≡ p * up a + p * up k + p * dn (a +ℤ k)
@@ -82,13 +82,6 @@ module _ {p q : ℕ} where
   mids-set zero (next g l) h = next h l
   mids-set (suc job) (next g l) h = next g (mids-set job l h)
 
--- one arm reaches the left side at both assignments
-pub record SameArm (near far : List ℤ) (c : Clause) : Type 0 where
-  pub arm : Arm
-  pub among : In arm (c .first ∷ c .others)
-  pub near-is : leftOf (timeAt near) c ≡ armTime (timeAt near) arm
-  pub far-is : leftOf (timeAt far) c ≡ armTime (timeAt far) arm
-
 -- and so between them
 module _ {p q : ℕ} (some : 1 ≤ p + q) {near mid far : List ℤ} (l : Mids p q near mid far) (c : Clause) (s : SameArm near far c) where
   arm-mid : (a : Arm) → Mid p q (armTime (timeAt near) a) (armTime (timeAt mid) a) (armTime (timeAt far) a)
@@ -105,23 +98,6 @@ module _ {p q : ℕ} (some : 1 ≤ p + q) {near mid far : List ℤ} (l : Mids p 
 
   left-mid : Mid p q (leftOf (timeAt near) c) (leftOf (timeAt mid) c) (leftOf (timeAt far) c)
   left-mid = rw (s .near-is, s .far-is, left-is) (arm-mid (s .arm))
-
--- a walk: each clause is kept, or stepped on without a fall below the floor; so many steps
-pub data Walk (floor : ℤ) : List Clause → List ℤ → List ℤ → ℕ → Type 0 where
-  done : {b : List ℤ} → Walk floor [] b b 0
-  keep : {c : Clause} {cs : List Clause} {b b′ : List ℤ} {s : ℕ} → Keeps (timeAt b) c → Walk floor cs b b′ s → Walk floor (c ∷ cs) b b′ s
-  lower : {c : Clause} {cs : List Clause} {b b′ : List ℤ} {s : ℕ} → leftOf (timeAt b) c <ℤ timeAt b (c .target) → floor ≤ℤ leftOf (timeAt b) c →
-      Walk floor cs (stepped b c) b′ s → Walk floor (c ∷ cs) b b′ (s + 1)
-
--- two walks with the same decisions: near and far, before and after
-pub data Lockstep (floor : ℤ) : List Clause → List ℤ → List ℤ → List ℤ → List ℤ → ℕ → Type 0 where
-  done : {n f : List ℤ} → Lockstep floor [] n f n f 0
-  keep : {c : Clause} {cs : List Clause} {n f n′ f′ : List ℤ} {s : ℕ} → SameArm n f c → Keeps (timeAt n) c → Keeps (timeAt f) c →
-      Lockstep floor cs n f n′ f′ s → Lockstep floor (c ∷ cs) n f n′ f′ s
-  lower : {c : Clause} {cs : List Clause} {n f n′ f′ : List ℤ} {s : ℕ} → SameArm n f c →
-      leftOf (timeAt n) c <ℤ timeAt n (c .target) → leftOf (timeAt f) c <ℤ timeAt f (c .target) →
-      floor ≤ℤ leftOf (timeAt n) c → floor ≤ℤ leftOf (timeAt f) c →
-      Lockstep floor cs (stepped n c) (stepped f c) n′ f′ s → Lockstep floor (c ∷ cs) n f n′ f′ (s + 1)
 
 -- the walk from an assignment between, and where it ends
 pub record Between (p q : ℕ) (floor : ℤ) (cs : List Clause) (near mid far : List ℤ) (s : ℕ) : Type 0 where
@@ -143,15 +119,6 @@ between some {floor = floor} (lower {c = c} a vn vf hn hf more) {m = m} l =
       walk = lower (mid-lt some left (mids-at l (c .target)) vn vf) (mid-le some (mid-same floor) left hn hf) (r .walk);
       mids = r .mids;
     }
-
--- lists of checks one after another, each with a step or more
-pub data Rounds (floor : ℤ) (cs : List Clause) : List ℤ → List ℤ → List ℤ → List ℤ → ℕ → Type 0 where
-  start : {n f : List ℤ} → Rounds floor cs n f n f 0
-  round : {n f n′ f′ n″ f″ : List ℤ} {s k : ℕ} → Rounds floor cs n f n′ f′ s → Lockstep floor cs n′ f′ n″ f″ k → 1 ≤ k → Rounds floor cs n f n″ f″ (s + k)
-
-pub data Passing (floor : ℤ) (cs : List Clause) : List ℤ → List ℤ → ℕ → Type 0 where
-  start : {b : List ℤ} → Passing floor cs b b 0
-  round : {b b′ b″ : List ℤ} {s k : ℕ} → Passing floor cs b b′ s → Walk floor cs b′ b″ k → 1 ≤ k → Passing floor cs b b″ (s + k)
 
 -- the passes from an assignment between, and where they end
 record Passed (p q : ℕ) (floor : ℤ) (cs : List Clause) (near mid far : List ℤ) (s : ℕ) : Type 0 where

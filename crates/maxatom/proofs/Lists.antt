@@ -7,10 +7,7 @@ use lib.ListN.{length, set}
 use lib.IntN.{ℤ}
 use Rattle.maxatom.specs.Rule.{timeAt}
 use Rattle.maxatom.specs.Book.{Each}
-
-pub data In {A : Type 0} : A → List A → Type 0 where
-  here : {a : A} {l : List A} → In a (a ∷ l)
-  there : {a b : A} {l : List A} → In a l → In a (b ∷ l)
+use Rattle.maxatom.specs.Clauses.{In, here, there}
 
 pub each-in : {A : Type 0} (P : A → Type 0) {a : A} (l : List A) → Each P l → In a l → P a
 each-in P (b ∷ l) e here = e .0

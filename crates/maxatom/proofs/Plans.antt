@@ -12,9 +12,10 @@ use lib.Signed.{_≤ℤ_, _<ℤ_, ltZ}
 use Rattle.maxatom.specs.Rule.{timeAt, maxZ, satisfied}
 use Rattle.maxatom.specs.Book.{Each, InBook, Accepted, AllSatisfied, Model, Plan, NotAfterZero}
 use Rattle.maxatom.specs.declared.Rule.{Rule}
+use Rattle.maxatom.specs.Clauses.{Assignment, Keeps, greatest, clauseOf, clausesOf}
 use Rattle.maxatom.proofs.Integers.{up, dn, le-read, le-make, lt-read, eq-make, add-parts, lt-true, lt-false}
-use Rattle.maxatom.proofs.Clauses.{Assignment, Keeps, KeepsAll, greatest, lemma-1}
-use Rattle.maxatom.proofs.Rules.{clauseOf, clausesOf, keeps-all, kept}
+use Rattle.maxatom.proofs.Clauses.{KeepsAll, lemma-1}
+use Rattle.maxatom.proofs.Rules.{keeps-all, kept}
 
 pub plan-unique : {jobs : ℕ} {rules : List Rule} {p q : List ℤ} → Plan jobs rules p → Plan jobs rules q → p ≡ q
 plan-unique {p = p} {q = q} a b =

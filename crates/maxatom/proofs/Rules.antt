@@ -12,17 +12,11 @@ use lib.Signed.{_≤ℤ_}
 use Rattle.maxatom.specs.Rule.{timeAt, maxZ, leftSide, satisfied, minutesOff}
 use Rattle.maxatom.specs.Book.{Each, AllSatisfied, total, floor, minus}
 use Rattle.maxatom.specs.declared.Rule.{Rule}
+use Rattle.maxatom.specs.Clauses.{In, here, there, Clause, leftOf, greatest, Keeps, clauseOf, clausesOf}
 use Rattle.maxatom.proofs.Integers.{up, dn, le-read, le-make, eq-make, add-parts, abs-parts, minus-parts, off-parts, le-true, true-le, add-mono, max-cases, max-left, max-right, max-under}
-use Rattle.maxatom.proofs.Lists.{In, here, there, sumBy}
-use Rattle.maxatom.proofs.Clauses.{Clause, leftOf, greatest, Keeps, KeepsAll, Weighed, totalOf}
+use Rattle.maxatom.proofs.Lists.{sumBy}
+use Rattle.maxatom.proofs.Clauses.{KeepsAll, Weighed, totalOf}
 use Rattle.maxatom.proofs.Derivations.{Setting, room}
-
-abbrev pub clauseOf : Rule → Clause
-clauseOf r = record { first = record { job = r .x; offset = r .k }; others = record { job = r .y; offset = r .k } ∷ []; target = r .z; weight = dn (r .k) + up (r .k) }
-
-unfoldable pub clausesOf : List Rule → List Clause
-clausesOf [] = []
-clausesOf (r ∷ rules) = clauseOf r ∷ clausesOf rules
 
 max-add : (a b k : ℤ) → maxZ (a +ℤ k) (b +ℤ k) ≡ maxZ a b +ℤ k
 max-add a b k =
@@ -56,12 +50,12 @@ kept-all (r ∷ rules) times k = (kept r times (k .0), kept-all rules times (k .
 pub total-same : (rules : List Rule) → totalOf (clausesOf rules) ≡ total rules
 unfolding clausesOf totalOf total
 total-same [] = refl
-total-same (r ∷ rules) = omega (arith, total-same rules, abs-parts (r .k))
+total-same (r ∷ rules) = omega (arith, total-same rules)
 
 weighed : (rules : List Rule) → Weighed (clausesOf rules)
 unfolding clausesOf
 weighed [] = tt
-weighed (r ∷ rules) = ((omega arith, (omega arith, tt)), weighed rules)
+weighed (r ∷ rules) = ((omega (arith, abs-parts (r .k)), (omega (arith, abs-parts (r .k)), tt)), weighed rules)
 
 -- the rule at a number
 pub in-clauses : (rules : List Rule) (i : ℕ) (d : Rule) → i < length rules → In (clauseOf (getD rules i d)) (clausesOf rules)

@@ -10,10 +10,11 @@ use native.Mathlib.Omega.{arith}
 use lib.IntN.{ℤ, pos, negℤ, _+ℤ_, _-ℤ_}
 use lib.Signed.{_≤ℤ_}
 use Rattle.maxatom.specs.Book.{Each, minus}
+use Rattle.maxatom.specs.Clauses.{Arm, Clause, Assignment, armTime, Keeps}
 use Rattle.maxatom.proofs.Integers.{up, dn, le-read, le-make, add-parts, neg-parts, minus-parts, up-zero, ≤ℤ-trans, add-mono}
 use Rattle.maxatom.proofs.Lists.{each-in}
 use Rattle.maxatom.proofs.Counting.{count, count-none, count-or, count-slow, count-mono, count-all, within, within-count, within-true}
-use Rattle.maxatom.proofs.Clauses.{Arm, Clause, Assignment, armTime, Keeps, KeepsAll, Below, Weighed, totalOf, Reaching, reaching, reached, lemma-1}
+use Rattle.maxatom.proofs.Clauses.{KeepsAll, Below, Weighed, totalOf, Reaching, reaching, reached, lemma-1}
 
 module _ (t : Assignment) where
   chosen : (c : Clause) → Keeps t c → Reaching t (c .first) (c .others) (t (c .target))

@@ -2,3 +2,5 @@ pub mod Rule
 pub mod Class
 pub mod ClassNumber
 pub mod Book
+pub mod Clauses
+pub mod Jumps

@@ -13,9 +13,10 @@ use borrow.Author.Tests.{eq-eqb, ne-eqb}
 use Rattle.maxatom.specs.Rule.{timeAt, leftSide, satisfied, minutesOff}
 use Rattle.maxatom.specs.Book.{Accepted, total, floor}
 use Rattle.maxatom.specs.declared.Rule.{Rule}
+use Rattle.maxatom.specs.Clauses.{clausesOf}
 use Rattle.maxatom.proofs.Choose.{cond-yes, cond-no}
 use Rattle.maxatom.proofs.Derivations.{Derivation, start, longest-high}
-use Rattle.maxatom.proofs.Rules.{clausesOf, room-zero, zero-time}
+use Rattle.maxatom.proofs.Rules.{room-zero, zero-time}
 use Rattle.derivation.specs.Step.{State, initial, ruleAt, belowFloor, stepOn, stepCall}
 use Rattle.derivation.specs.Play.{play, endState, upFrom}
 use Rattle.derivation.specs.Run.{Run, End, pass, passes, passBound, solve, fallen, planned, fell, unfinished}

@@ -8,8 +8,8 @@ use lib.ListN.{length}
 use lib.IntN.{ℤ}
 use Rattle.maxatom.specs.Book.{Accepted, InBook, floor}
 use Rattle.maxatom.specs.declared.Rule.{Rule}
-use Rattle.maxatom.proofs.Rules.{clausesOf}
-use Rattle.maxatom.proofs.Jumps.{Walk, Passing, start, round}
+use Rattle.maxatom.specs.Clauses.{clausesOf}
+use Rattle.maxatom.specs.Jumps.{Walk, Passing, start, round}
 use Rattle.derivation.specs.Step.{ruleAt}
 use Rattle.derivation.specs.Run.{pass, passBound, fallen, unfinished}
 use Rattle.derivation.proofs.AnyOrder.{each-at}
