@@ -22,17 +22,17 @@ use Rattle.run.proofs.Runs.{Going, going-none, going-kept, going-low, g
 use Rattle.run.proofs.Settling.{settled-kept, settled-low, settled-all, settled-block, settled-kept-block}
 
 -- the rules of a part before i are passed
-pub record Parting (xs ys zs : List ℕ) (ks : List ℤ) (count from to : ℕ) (words : List ℕ) (b₀ : List ℤ) (s₀ m₀ : ℕ) (b : List ℤ) (s m i : ℕ) : Type 0 where
+pub record Parting (xs ys zs : List ℕ) (ks : List ℤ) (count from to : ℕ) (noted : Bool) (b₀ : List ℤ) (s₀ m₀ : ℕ) (b : List ℤ) (s m i : ℕ) : Type 0 where
   pub low : i ≤ to
   pub going : Going xs ys zs ks count from b₀ s₀ b s i
-  pub settled : Reads (rulesOf xs ys zs ks count) words → Settled (rulesOf xs ys zs ks count) b₀ m₀ from to → Settled (rulesOf xs ys zs ks count) b m i to
+  pub settled : noted ≡ true → Settled (rulesOf xs ys zs ks count) b₀ m₀ from to → Settled (rulesOf xs ys zs ks count) b m i to
 
-pub parting-none : (xs ys zs : List ℕ) (ks : List ℤ) (count from to : ℕ) (words : List ℕ) (b : List ℤ) (s m : ℕ) → from ≤ to → to ≤ count → Running (length b) (rulesOf xs ys zs ks count) b s →
-    Parting xs ys zs ks count from to words b s m b s m from
-parting-none xs ys zs ks count from to words b s m h k p = record { low = h; going = going-none xs ys zs ks count from b s (omega arith) p; settled = λ r q. q }
+pub parting-none : (xs ys zs : List ℕ) (ks : List ℤ) (count from to : ℕ) (noted : Bool) (b : List ℤ) (s m : ℕ) → from ≤ to → to ≤ count → Running (length b) (rulesOf xs ys zs ks count) b s →
+    Parting xs ys zs ks count from to noted b s m b s m from
+parting-none xs ys zs ks count from to noted b s m h k p = record { low = h; going = going-none xs ys zs ks count from b s (omega arith) p; settled = λ r q. q }
 
-module _ {xs ys zs : List ℕ} {ks : List ℤ} {count from to : ℕ} {words : List ℕ} {b₀ : List ℤ} {s₀ m₀ : ℕ} {b : List ℤ} {s m i : ℕ}
-    (g : Parting xs ys zs ks count from to words b₀ s₀ m₀ b s m i) (inside : to ≤ count) where
+module _ {xs ys zs : List ℕ} {ks : List ℤ} {count from to : ℕ} {noted : Bool} {b₀ : List ℤ} {s₀ m₀ : ℕ} {b : List ℤ} {s m i : ℕ}
+    (g : Parting xs ys zs ks count from to noted b₀ s₀ m₀ b s m i) (inside : to ≤ count) where
   abbrev rules : List Rule
   rules = rulesOf xs ys zs ks count
 
@@ -43,28 +43,27 @@ module _ {xs ys zs : List ℕ} {ks : List ℤ} {count from to : ℕ} {words : Li
     at : ruleAt rules i ≡ rule
     at = rows-at xs ys zs ks count i (omega arith)
 
-    pub parting-kept : satisfied rule b ≡ true → Parting xs ys zs ks count from to words b₀ s₀ m₀ b s m (i + 1)
+    pub parting-kept : satisfied rule b ≡ true → Parting xs ys zs ks count from to noted b₀ s₀ m₀ b s m (i + 1)
     parting-kept e =
         record { low = omega arith; going = going-kept (g .going) (omega arith) e; settled = λ r q. settled-kept (g .settled r q) (ap (λ (t : Rule). satisfied t b) at ∙ e) }
 
     module _ (broken : satisfied rule b ≡ false) {b′ : List ℤ} (left : b′ ≡ set b (rule .z) (leftSide rule b)) where
-      pub parting-low : ltZ (leftSide rule b) (floor rules) ≡ false → rule .z < length b → {k : ℕ} → k ≡ getD words (rule .z) 0 →
-          Parting xs ys zs ks count from to words b₀ s₀ m₀ b′ (s + 1) (bitOr m k) (i + 1)
-      parting-low up named e =
+      pub parting-low : ltZ (leftSide rule b) (floor rules) ≡ false → rule .z < length b → {words : List ℕ} → Reads rules words → {k : ℕ} → k ≡ getD words (rule .z) 0 →
+          Parting xs ys zs ks count from to noted b₀ s₀ m₀ b′ (s + 1) (bitOr m k) (i + 1)
+      parting-low up named {words = words} reads e =
           record {
             low = omega arith;
             going = going-low (g .going) (omega arith) broken left up;
             settled = λ r q. subst (λ (k : ℕ). Settled rules b′ (bitOr m k) (i + 1) to) (ap (λ (t : Rule). getD words (t .z) 0) at ∙ sym e)
-                (settled-low (g .settled r q) r (ap (λ (t : Rule). satisfied t b) at ∙ broken) (rw at named) (left ∙ ap (λ (t : Rule). set b (t .z) (leftSide t b)) (sym at)));
+                (settled-low (g .settled r q) reads (ap (λ (t : Rule). satisfied t b) at ∙ broken) (rw at named) (left ∙ ap (λ (t : Rule). set b (t .z) (leftSide t b)) (sym at)));
           }
 
-      -- without a word for its job, a step is not noted
-      pub parting-unnoted : ltZ (leftSide rule b) (floor rules) ≡ false → length words ≤ rule .z → Parting xs ys zs ks count from to words b₀ s₀ m₀ b′ (s + 1) m (i + 1)
-      parting-unnoted up none =
+      pub parting-unnoted : ltZ (leftSide rule b) (floor rules) ≡ false → noted ≡ false → Parting xs ys zs ks count from to noted b₀ s₀ m₀ b′ (s + 1) m (i + 1)
+      parting-unnoted up un =
           record {
             low = omega arith;
             going = going-low (g .going) (omega arith) broken left up;
-            settled = λ r q. absurd (omega (arith, none, ap (λ (t : Rule). t .z) at, r .lowered i (omega (arith, rows-length xs ys zs ks 0 count))));
+            settled = λ r q. absurd (true≢false (sym r ∙ un));
           }
 
       pub parting-fell : ltZ (leftSide rule b) (floor rules) ≡ true → (out : PassOut) → out .steps ≡ s + 1 → out .fell ≡ true → out .job ≡ rule .z →
@@ -85,7 +84,11 @@ module _ {xs ys zs : List ℕ} {ks : List ℤ} {count from to : ℕ} {words : Li
         ended = λ f. absurd (true≢false (sym f ∙ t));
       }
 
-  pub parting-settled : to ≤ i → Reads rules words → Settled rules b₀ m₀ from to → Settled rules b m to to
+  -- the job that rule i lowers has a word
+  pub parting-word : i < to → {words : List ℕ} → Reads rules words → rule .z < length words
+  parting-word h r = rw (at h) at (r .lowered i (omega (arith, rows-length xs ys zs ks 0 count)))
+
+  pub parting-settled : to ≤ i → noted ≡ true → Settled rules b₀ m₀ from to → Settled rules b m to to
   parting-settled h r q = subst (λ (n : ℕ). Settled rules b m n to) (omega (arith, g .low)) (g .settled r q)
 
 -- a pass's outcome, by whether it fell

@@ -32,7 +32,7 @@ fn weighed(minutes: u64, rule: usize) -> u64 {
 }
 
 // The rules of a pass from one to before another: a step on each violated one, and an end at once when a time falls below the floor.
-// Where there are words, each step is noted: the blocks that read its job are marked.
+// Where the steps are noted, each marks the blocks that read its job.
 fn part(
     xs: &[u16],
     ys: &[u16],
@@ -43,6 +43,7 @@ fn part(
     to: usize,
     f: i32,
     words: &[u64],
+    noted: bool,
     steps: u64,
     marked: u64,
     last: usize,
@@ -53,8 +54,9 @@ fn part(
     requires { ⌜ (from ≤ to) × (to ≤ count) ⌝ }
     requires { ⌜ Running (length (now times)) (rulesOf (now xs) (now ys) (now zs) (now ks) count) (now times) steps ⌝ }
     requires { ⌜ f ≡ floor (rulesOf (now xs) (now ys) (now zs) (now ks) count) ⌝ }
+    requires { ⌜ (noted ≡ true → Reads (rulesOf (now xs) (now ys) (now zs) (now ks) count) (now words)) ⌝ }
     ensures { λ r. ⌜ Parted (now (xs .entry)) (now (ys .entry)) (now (zs .entry)) (now (ks .entry)) count from to (now (times .entry)) steps (now (times .exit)) r ⌝ }
-    ensures { λ r. ⌜ (Reads (rulesOf (now (xs .entry)) (now (ys .entry)) (now (zs .entry)) (now (ks .entry)) count) (now (words .entry)) → Settled (rulesOf (now (xs .entry)) (now (ys .entry)) (now (zs .entry)) (now (ks .entry)) count) (now (times .entry)) marked from to → r .fell ≡ false → Settled (rulesOf (now (xs .entry)) (now (ys .entry)) (now (zs .entry)) (now (ks .entry)) count) (now (times .exit)) (r .marked) to to) ⌝ }
+    ensures { λ r. ⌜ (noted ≡ true → Settled (rulesOf (now (xs .entry)) (now (ys .entry)) (now (zs .entry)) (now (ks .entry)) count) (now (times .entry)) marked from to → r .fell ≡ false → Settled (rulesOf (now (xs .entry)) (now (ys .entry)) (now (zs .entry)) (now (ks .entry)) count) (now (times .exit)) (r .marked) to to) ⌝ }
 {
     let mut s = steps;
     let mut m = marked;
@@ -79,7 +81,7 @@ fn part(
                     minutes: 0,
                 };
             }
-            if z < words.len() {
+            if noted {
                 m = m | words[z];
                 a = i;
                 g = g ^ weighed(off, i);
@@ -148,6 +150,7 @@ fn pass_marked(
                 block_end(block, count),
                 f,
                 words,
+                true,
                 s,
                 unmarked(m, block),
                 a,
@@ -195,30 +198,13 @@ pub fn pass(
     requires { ⌜ Columns (now xs) (now ys) (now zs) (now ks) count ⌝ }
     requires { ⌜ Running (length (now times)) (rulesOf (now xs) (now ys) (now zs) (now ks) count) (now times) steps ⌝ }
     requires { ⌜ f ≡ floor (rulesOf (now xs) (now ys) (now zs) (now ks) count) ⌝ }
+    requires { ⌜ (noted ≡ true → Reads (rulesOf (now xs) (now ys) (now zs) (now ks) count) (now words)) ⌝ }
     requires { ⌜ (sparse ≡ true → Tracked (rulesOf (now xs) (now ys) (now zs) (now ks) count) (now words) (now times) marked) ⌝ }
     ensures { λ r. ⌜ runOf r (now (times .exit)) ≡ pass f (rulesOf (now (xs .entry)) (now (ys .entry)) (now (zs .entry)) (now (ks .entry)) count) (now (times .entry)) steps ⌝ }
-    ensures { λ r. ⌜ (Reads (rulesOf (now (xs .entry)) (now (ys .entry)) (now (zs .entry)) (now (ks .entry)) count) (now (words .entry)) → noted ≡ true → r .fell ≡ false → Settled (rulesOf (now (xs .entry)) (now (ys .entry)) (now (zs .entry)) (now (ks .entry)) count) (now (times .exit)) (r .marked) 0 0) ⌝ }
+    ensures { λ r. ⌜ (noted ≡ true → r .fell ≡ false → Settled (rulesOf (now (xs .entry)) (now (ys .entry)) (now (zs .entry)) (now (ks .entry)) count) (now (times .exit)) (r .marked) 0 0) ⌝ }
 {
     if sparse {
         return pass_marked(xs, ys, zs, ks, count, f, words, marked, times, steps);
-    }
-    if noted {
-        return part(
-            xs,
-            ys,
-            zs,
-            ks,
-            count,
-            0,
-            count,
-            f,
-            words,
-            steps,
-            0,
-            0,
-            0,
-            times,
-        );
     }
     part(
         xs,
@@ -229,7 +215,8 @@ pub fn pass(
         0,
         count,
         f,
-        &words[..0],
+        words,
+        noted,
         steps,
         0,
         0,

@@ -89,7 +89,7 @@ finish-spec =
     record { looping = p .1 .0; settled = λ e. absurd (true≢false (sym e)); marks-size = refl; sized = p .1 .1 .1 .1 })
     (λ c κs. let l = c .before in
     let v = l .loop .inv in
-    (start l .pre .0, (rw (size-of (v .looping .running)) (v .looping .running), (floor-is l, λ e. record { reads = start l .pre .1 .1 .1 .0; settled = v .settled e }))))
+    (start l .pre .0, (rw (size-of (v .looping .running)) (v .looping .running), (floor-is l, (λ e. start l .pre .1 .1 .1 .0, λ e. record { reads = start l .pre .1 .1 .1 .0; settled = v .settled e })))))
     (λ c. at (c .before .before) .loop .inv .marks-size)
     (λ c. drops-kept (at (c .before .before)))
     (λ c. near-kept (at (c .before .before)))
@@ -121,7 +121,7 @@ finish-spec =
       looping = again k;
       settled = λ e.
           let q = c .before .before .is-sparse .ensures e in
-          still-settled (taken k) (q .1) (passing k .pass .ensures .1 (start (at (passing k)) .pre .1 .1 .1 .0) (q .0) (stands k));
+          still-settled (taken k) (q .1) (passing k .pass .ensures .1 (q .0) (stands k));
       marks-size = n .1 .1 .1 .1 .1 .1 .1 .1 .1 .1 .1 .0 ∙ inv k .marks-size;
       sized = record { drops-size = n .1 .1 .1 .1 .1 .1 .1 .1 .1 .1 .1 .1 .0 ∙ z .drops-size; near-size = n .1 .1 .1 .1 .1 .1 .1 .1 .1 .1 .1 .1 .1 .0 ∙ z .near-size; far-size = n .1 .1 .1 .1 .1 .1 .1 .1 .1 .1 .1 .1 .1 .1 .0 ∙ z .far-size };
     }))

@@ -74,7 +74,7 @@ solve-checked-spec =
     (λ c. search needs)
     (λ c κs. let l = c .before .before .before in
     let p = l .loop .inv .running in
-    (start (floor-at l) .pre .0, (rw (size-of p) p, (floor-is (floor-at l), λ e. absurd (true≢false (sym e))))))
+    (start (floor-at l) .pre .0, (rw (size-of p) p, (floor-is (floor-at l), (λ e. absurd (true≢false (sym e)), λ e. absurd (true≢false (sym e)))))))
     (λ c. size (c .before .before))
     (λ c. let d = c .before .before in
     rw (cleared (at d)) at (solved-fell (at d .loop .inv) (d .pass .result) _ (said d) (c .if1 .taken)))

@@ -18,17 +18,18 @@ use Rattle.maxatom.specs.declared.Rule.{Rule}
 use Rattle.derivation.specs.Run.{Run, fell}
 use Rattle.table.specs.Columns.{ruleOf, rulesOf}
 use Rattle.solver.specs.Replies.{Named}
+use Rattle.run.specs.Blocks.{Reads}
 use Rattle.solver.proofs.Laws.{named}
 use Rattle.run.proofs.Runs.{size-of, few-fit, lowerable-here}
-use Rattle.run.proofs.Parts.{Parting, parting-none, parting-kept, parting-low, parting-unnoted, parting-fell, parting-all, parting-settled}
+use Rattle.run.proofs.Parts.{Parting, parting-none, parting-kept, parting-low, parting-unnoted, parting-word, parting-fell, parting-all, parting-settled}
 use Rattle.run.proofs.passing.part.Statement.{statement}
 use Rattle.run.proofs.passing.part.Tie as tie
 
 abbrev Inv-loop : tie.InvT-loop
-Inv-loop xs ys zs ks count from to f words steps marked last minutes times₀ s₀ m₀ a₀ g₀ i₀ times s m a g i = Parting xs ys zs ks count from to words times₀ steps marked times s m i
+Inv-loop xs ys zs ks count from to f words noted steps marked last minutes times₀ s₀ m₀ a₀ g₀ i₀ times s m a g i = Parting xs ys zs ks count from to noted times₀ steps marked times s m i
 
 abbrev μ-loop : tie.MeasureT-loop
-μ-loop xs ys zs ks count from to f words steps marked last minutes times₀ s₀ m₀ a₀ g₀ i₀ times s m a g i = to - i
+μ-loop xs ys zs ks count from to f words noted steps marked last minutes times₀ s₀ m₀ a₀ g₀ i₀ times s m a g i = to - i
 
 abbrev start : tie.At-loop Inv-loop μ-loop → tie.Start Inv-loop μ-loop
 start l = l .before .before .before .before .before
@@ -86,7 +87,11 @@ falls c b t =
     toZ-ofZ f
     ∙ (ap (λ (r : Rule). timeAt (l .lower .last .1 .0) (r .z)) (read-is e)
     ∙ (ap (λ (b : List ℤ). timeAt b (rule (at e) .z)) (lowered l) ∙ getD-set-same (at e .loop .times) (rule (at e) .z) left (pos 0) (names (at e) (has e) .third))) in
-    sym (ap (λ (x : ℤ). ltZ x (toZ w32 (ofZ w32 (s .args .f)))) v ∙ ap (λ (y : ℤ). ltZ left y) (toZ-ofZ (s .fits .f) ∙ s .pre .1 .1 .1)) ∙ t
+    sym (ap (λ (x : ℤ). ltZ x (toZ w32 (ofZ w32 (s .args .f)))) v ∙ ap (λ (y : ℤ). ltZ left y) (toZ-ofZ (s .fits .f) ∙ s .pre .1 .1 .1 .0)) ∙ t
+
+-- where the steps are noted, the words tell what to mark
+noting : (l : tie.At-loop Inv-loop μ-loop) → start l .args .noted ≡ true → let a = start l .args in Reads (rulesOf (now (a .xs)) (now (a .ys)) (now (a .zs)) (now (a .ks)) (a .count)) (now (a .words))
+noting l e = start l .pre .1 .1 .1 .1 e
 
 pub part-spec : {M : Type 1} → statement M
 part-spec =
@@ -117,19 +122,20 @@ part-spec =
       λ r q f. absurd (true≢false f),
     ))
     (λ c. search needs)
-    (λ c. search needs)
+    (λ c. let e = c .before .before .before .before .before .before .before .before in
+    rw (read-is e) (parting-word (at e .loop .inv) (within (at e)) (has e) (noting (at e) (c .before .if3 .taken))))
     (λ c κs. search needs)
     (λ c. search needs)
     (λ c. search needs)
     (λ c. let l = c .before .before .before .before .before .before .before in
     let e = l .before .before in
-    parting-low (at e .loop .inv) (within (at e)) (has e) (broken e) (lowered l) (falls (c .before .before .before .before) false (c .before .before .before .if2 .left)) (names (at e) (has e) .third)
+    parting-low (at e .loop .inv) (within (at e)) (has e) (broken e) (lowered l) (falls (c .before .before .before .before) false (c .before .before .before .if2 .left)) (names (at e) (has e) .third) (noting (at e) (c .before .before .if3 .taken))
     (ap (λ (r : Rule). getD (now (start (at e) .args .words)) (r .z) 0) (read-is e)))
     (λ c. search needs)
     (λ c. search needs)
     (λ c. let l = c .before .before .before .before .before in
     let e = l .before .before in
-    parting-unnoted (at e .loop .inv) (within (at e)) (has e) (broken e) (lowered l) (falls (c .before .before) false (c .before .if2 .left)) (rw (read-is e) at (c .if3 .left)))
+    parting-unnoted (at e .loop .inv) (within (at e)) (has e) (broken e) (lowered l) (falls (c .before .before) false (c .before .if2 .left)) (c .if3 .left))
     (λ c. size-of (c .before .loop .inv .going .running))
     (λ c. let l = c .before in
     let v = l .loop .inv in

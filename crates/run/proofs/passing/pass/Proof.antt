@@ -1,5 +1,4 @@
-use mathlib.Core.Path.{_≡_, sym, _∙_}
-use mathlib.Core.Bool.{true≢false}
+use mathlib.Core.Path.{_≡_, _∙_}
 use native.Mathlib.Omega.{arith}
 use denote.Ref.{now}
 use mir.Facts.{toZ-ofZ}
@@ -16,25 +15,18 @@ pass-spec =
     (tie.spec
     (λ c κs. let s = c .before .before .before .before .before .before in
     let p = s .pre in
-    (p .0, (p .1 .0, (toZ-ofZ (s .fits .f) ∙ p .1 .1 .0, p .1 .1 .1 (c .before .if1 .taken)))))
+    (p .0, (p .1 .0, (toZ-ofZ (s .fits .f) ∙ p .1 .1 .0, p .1 .1 .1 .1 (c .before .if1 .taken)))))
     (λ c. search needs)
     (λ c. let s = c .before .before .before .before .before .before .before .before in
     let e = c .before .pass-marked .ensures in
-    (rw (toZ-ofZ (s .fits .f)) at (e .0), λ r n f. e .1 f))
-    (λ c κs. let s = c .before .before .before .before .before .before .before in
+    (rw (toZ-ofZ (s .fits .f)) at (e .0), λ n f. e .1 f))
+    (λ c κs. let s = c .before .before .before .before .before .before in
     let p = s .pre in
-    (p .0, ((omega arith, omega arith), (p .1 .0, toZ-ofZ (s .fits .f) ∙ p .1 .1 .0))))
+    (p .0, ((omega arith, omega arith), (p .1 .0, (toZ-ofZ (s .fits .f) ∙ p .1 .1 .0, p .1 .1 .1 .0)))))
     (λ c. search needs)
-    (λ c. let s = c .before .before .before .before .before .before .before .before .before in
+    (λ c. let s = c .before .before .before .before .before .before .before .before in
     let a = s .args in
     let e = c .before .part .ensures in (
       rw (s .pre .1 .1 .0) (parted-whole (e .0)),
-      λ r n f. settled-all (e .1 r (settled-none (omega (arith, rows-length (now (a .xs)) (now (a .ys)) (now (a .zs)) (now (a .ks)) 0 (a .count)))) f),
-    ))
-    (λ c. search needs)
-    (λ c κs. let s = c .before .before .before .before .before .before .before .before in
-    let p = s .pre in
-    (p .0, ((omega arith, omega arith), (p .1 .0, toZ-ofZ (s .fits .f) ∙ p .1 .1 .0))))
-    (λ c. search needs)
-    (λ c. let s = c .before .before .before .before .before .before .before .before .before .before in
-    (rw (s .pre .1 .1 .0) (parted-whole (c .before .part2 .ensures .0)), λ r n f. absurd (true≢false (sym n ∙ c .before .before .before .before .if2 .left)))))
+      λ n f. settled-all (e .1 n (settled-none (omega (arith, rows-length (now (a .xs)) (now (a .ys)) (now (a .zs)) (now (a .ks)) 0 (a .count)))) f),
+    )))

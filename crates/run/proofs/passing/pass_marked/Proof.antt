@@ -48,16 +48,16 @@ module _ (c : tie.After-part Inv-loop μ-loop) where
   end-is : c .before .before .before .block-end .result ≡ end
   end-is = c .before .before .before .block-end .ensures
 
-  parted : let a = start at .args in Parted (now (a .xs)) (now (a .ys)) (now (a .zs)) (now (a .ks)) (a .count) (at .loop .block * 16) end (at .loop .times) (at .loop .s) (c .part .last .1 .1 .1 .1 .1 .1 .1 .1 .1 .1 .1 .1 .1 .0) (c .part .result)
+  parted : let a = start at .args in Parted (now (a .xs)) (now (a .ys)) (now (a .zs)) (now (a .ks)) (a .count) (at .loop .block * 16) end (at .loop .times) (at .loop .s) (c .part .last .1 .1 .1 .1 .1 .1 .1 .1 .1 .1 .1 .1 .1 .1 .0) (c .part .result)
   parted = rw end-is at (c .part .ensures .0)
 
-  settled : c .part .result .fell ≡ false → Settled (rules at) (c .part .last .1 .1 .1 .1 .1 .1 .1 .1 .1 .1 .1 .1 .1 .0) (c .part .result .marked) end end
+  settled : c .part .result .fell ≡ false → Settled (rules at) (c .part .last .1 .1 .1 .1 .1 .1 .1 .1 .1 .1 .1 .1 .1 .1 .0) (c .part .result .marked) end end
   settled f =
       rw end-is at
-      (c .part .ensures .1 (start at .pre .1 .1 .1 .reads) (rw end-is (blocking-open (at .loop .inv) has (c .before .before .unmarked .ensures))) f)
+      (c .part .ensures .1 refl (rw end-is (blocking-open (at .loop .inv) has (c .before .before .unmarked .ensures))) f)
 
-  kept : length (c .part .last .1 .1 .1 .1 .1 .1 .1 .1 .1 .1 .1 .1 .1 .0) ≡ length (now (start at .args .times))
-  kept = c .part .kept .1 .1 .1 .1 .1 .1 .1 .1 .1 .1 .1 .1 .1 .0 ∙ size-of (at .loop .inv .going .running)
+  kept : length (c .part .last .1 .1 .1 .1 .1 .1 .1 .1 .1 .1 .1 .1 .1 .1 .0) ≡ length (now (start at .args .times))
+  kept = c .part .kept .1 .1 .1 .1 .1 .1 .1 .1 .1 .1 .1 .1 .1 .1 .0 ∙ size-of (at .loop .inv .going .running)
 
 pub pass-marked-spec : {M : Type 1} → statement M
 pass-marked-spec =
@@ -75,7 +75,7 @@ pass-marked-spec =
     let p = start l .pre in
     let e = c .before .before .block-end .ensures in
     let r = l .loop .inv .going .running in
-    (p .0, ((omega (arith, e, c .before .before .before .before .before .loop-test .taken), omega (arith, e)), (rw (size-of r) r, toZ-ofZ (start l .fits .f) ∙ p .1 .1 .0))))
+    (p .0, ((omega (arith, e, c .before .before .before .before .before .loop-test .taken), omega (arith, e)), (rw (size-of r) r, (toZ-ofZ (start l .fits .f) ∙ p .1 .1 .0, λ e. p .1 .1 .1 .reads)))))
     (λ c. kept (c .before .before))
     (λ c. let d = c .before .before in
     (rw (start (at d) .pre .1 .1 .0) (blocking-fell (at d .loop .inv) (has d) (parted d) (c .if2 .taken)), λ f. absurd (true≢false (sym (c .if2 .taken) ∙ f))))
