@@ -1,6 +1,6 @@
 -- What the functions of jumps take and answer.
 use mathlib.Core.Path.{_≡_}
-use mathlib.Core.Bool.{true}
+use mathlib.Core.Bool.{Bool, true, false}
 use mathlib.Core.List.{List}
 use Prim.Native.Nat.{ℕ, _+_, _*_, _<_, _≤_, _^_}
 use lib.ListN.{length, getD}
@@ -9,7 +9,7 @@ use lib.Signed.{_≤ℤ_, ltZ}
 use Rattle.maxatom.specs.Rule.{timeAt, leftSide, satisfied}
 use Rattle.maxatom.specs.declared.Rule.{Rule}
 use Rattle.maxatom.specs.Clauses.{clausesOf}
-use Rattle.maxatom.specs.Jumps.{Lockstep, Rounds, Passing}
+use Rattle.maxatom.specs.Jumps.{Walk, Lockstep, Rounds, Passing, Traced, Along}
 use Rattle.solver.specs.Replies.{Lowerable}
 use Rattle.jump.specs.declared.lockstep.Stand.{Stand}
 use Rattle.jump.specs.declared.lockstep.Stand.the-variants.{Kept, Low, Apart}
@@ -45,9 +45,13 @@ pub record Locked (rules : List Rule) (f : ℤ) (near far near′ far′ : List 
   pub locked : 1 ≤ steps → Lockstep f (clausesOf rules) near far near′ far′ steps
 
 -- passes in lockstep
-pub record Rounded (rules : List Rule) (f : ℤ) (near far near′ far′ : List ℤ) (steps : ℕ) : Type 0 where
+pub record Rounded (rules : List Rule) (f : ℤ) (near far near′ far′ : List ℤ) (passes steps : ℕ) : Type 0 where
   pub few : steps < 2 ^ 33
-  pub rounds : 1 ≤ steps → Rounds f (clausesOf rules) near far near′ far′ steps
+  pub rounds : 1 ≤ steps → Rounds f (clausesOf rules) near far near′ far′ passes steps
+
+-- a plain pass, which is given up where a job would fall below the floor
+pub record Walked (rules : List Rule) (f : ℤ) (times times′ : List ℤ) (fell : Bool) (steps : ℕ) : Type 0 where
+  pub walk : fell ≡ false → Walk f (clausesOf rules) times times′ steps
 
 -- as many drops, near times and far times as jobs
 pub record Sized (jobs : ℕ) (drops : List ℕ) (near far : List ℤ) : Type 0 where
@@ -65,9 +69,16 @@ pub record Dropped (t : ℕ) (drops : List ℕ) (times near far : List ℤ) : Ty
 
 -- passes, each with a step and without an end
 pub record Passed (rules : List Rule) (f : ℤ) (times times′ : List ℤ) (steps : ℕ) : Type 0 where
-  pub passing : Passing f (clausesOf rules) times times′ steps
+  pub passes : ℕ
+  pub passing : Passing f (clausesOf rules) 1 times times′ passes steps
 
--- and those of one jump
-pub record Leapt (rules : List Rule) (f : ℤ) (times times′ : List ℤ) (steps : ℕ) : Type 0 where
+-- a job's time after i passes, where so many of them take off its drop
+abbrev pub Falling : ℕ → List ℕ → List ℤ → ℕ → ℕ → ℤ → Type 0
+Falling passes drops times job i v = Along passes (getD drops job 0) (timeAt times job) i v
+
+-- one jump: t + 1 repetitions of so many passes, or nothing
+pub record Leapt (rules : List Rule) (f : ℤ) (passes t : ℕ) (drops : List ℕ) (times times′ : List ℤ) (steps : ℕ) : Type 0 where
   pub few : steps < 2 ^ 63
-  pub passed : Passed rules f times times′ steps
+  pub none : steps ≡ 0 → times′ ≡ times
+  pub traced : 1 ≤ steps → Traced f (clausesOf rules) 1 (λ job. Unit {0}) (λ job i v. Falling passes drops times job i v) times times′ ((t + 1) * passes) steps
+  pub lands : 1 ≤ steps → (job : ℕ) → timeAt times job ≡ timeAt times′ job +ℤ pos ((t + 1) * getD drops job 0)

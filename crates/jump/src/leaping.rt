@@ -1,47 +1,20 @@
 // Jumps: repetitions of the same passes, taken at once where the lockstep test allows it.
 ghost use mathlib.Core.Path.{_≡_};
 ghost use mathlib.Core.Bool.{Bool, true};
-ghost use Prim.Native.Nat.{ℕ, _+_, _*_, _<_, _≤_, _^_};
+ghost use Prim.Native.Nat.{ℕ, _≤_, _^_};
 ghost use lib.ListN.{length};
-ghost use lib.IntN.{ℤ, pos, _+ℤ_};
+ghost use lib.IntN.{ℤ};
 ghost use Rattle.table.specs.Columns.{rulesOf, Columns};
 ghost use Rattle.solver.specs.Replies.{NamedAll};
 ghost use Rattle.jump.specs.Leaps.{Spread, Dropped, Passed, Leapt, Sized};
-use crate::lockstep::Stand;
 use crate::lockstep::rounds;
-use crate::lockstep::stand_at;
-use solver::lower;
-use table::rule_at;
-
-// A time so many minutes earlier.
-fn earlier(t: i32, minutes: u64) -> i64
-    requires { ⌜ minutes < 2 ^ 62 ⌝ }
-    ensures { λ r. ⌜ t ≡ r +ℤ pos minutes ⌝ }
-{
-    (t as i64) - (minutes as i64)
-}
-
-fn is_earlier(t: i32, early: i32, minutes: u64) -> bool
-    requires { ⌜ minutes < 2 ^ 62 ⌝ }
-    ensures { λ r. ⌜ (r ≡ true → t ≡ early +ℤ pos minutes) ⌝ }
-{
-    let e = earlier(t, minutes);
-    let w = early as i64;
-    if e <= w { w <= e } else { false }
-}
-
-fn wide(x: u32) -> u64
-    ensures { λ r. ⌜ (r ≡ x) × (r < 2 ^ 32) ⌝ }
-{
-    x as u64
-}
-
-fn product(t: u64, d: u32) -> u64
-    requires { ⌜ t ≤ 2 ^ 29 + 1 ⌝ }
-    ensures { λ r. ⌜ (r ≡ t * d) × (r < 2 ^ 62) ⌝ }
-{
-    t * wide(d)
-}
+use crate::minutes::copy;
+use crate::minutes::earlier;
+use crate::minutes::fall;
+use crate::minutes::is_earlier;
+use crate::minutes::product;
+use crate::minutes::wide;
+use crate::plain::plain_passes;
 
 // The near times are the times, and the far times lie t drops below them, none below the floor; or false.
 fn spread(f: i32, t: u64, drops: &[u32], times: &[i32], near: &mut [i32], far: &mut [i32]) -> bool
@@ -81,19 +54,8 @@ fn dropped(t: u64, drops: &[u32], times: &[i32], near: &[i32], far: &[i32]) -> b
     true
 }
 
-fn copy(from: &[i32], to: &mut [i32])
-    requires { ⌜ length (now to) ≡ length (now from) ⌝ }
-    ensures { λ r. ⌜ now (to .exit) ≡ now (from .entry) ⌝ }
-{
-    let mut i = 0;
-    while i < from.len() {
-        to[i] = from[i];
-        i += 1;
-    }
-}
-
 // The passes t + 1 times over, where the lockstep test allows it: their steps, or 0 and no change.
-fn leap(
+pub fn leap(
     xs: &[u16],
     ys: &[u16],
     zs: &[u16],
@@ -110,7 +72,7 @@ fn leap(
     requires { ⌜ Columns (now xs) (now ys) (now zs) (now ks) count ⌝ }
     requires { ⌜ NamedAll (rulesOf (now xs) (now ys) (now zs) (now ks) count) (length (now times)) (length (now times)) ⌝ }
     requires { ⌜ Sized (length (now times)) (now drops) (now near) (now far) ⌝ }
-    ensures { λ r. ⌜ Leapt (rulesOf (now (xs .entry)) (now (ys .entry)) (now (zs .entry)) (now (ks .entry)) count) f (now (times .entry)) (now (times .exit)) r ⌝ }
+    ensures { λ r. ⌜ Leapt (rulesOf (now (xs .entry)) (now (ys .entry)) (now (zs .entry)) (now (ks .entry)) count) f passes t (now (drops .entry)) (now (times .entry)) (now (times .exit)) r ⌝ }
 {
     if t < 1 {
         return 0;
@@ -132,16 +94,7 @@ fn leap(
     (t + 1) * s
 }
 
-// The minutes from a time down to an earlier one.
-fn fall(t: i32, early: i32) -> u32 {
-    if early < t {
-        ((t as i64) - (early as i64)) as u32
-    } else {
-        0
-    }
-}
-
-// The drops, and how many of them fit above the floor.
+// The drops, and how many more of them fit above the floor.
 fn guess(f: i32, times: &[i32], near: &[i32], drops: &mut [u32]) -> u64
     requires { ⌜ length (now near) ≡ length (now times) ⌝ }
     requires { ⌜ length (now drops) ≡ length (now times) ⌝ }
@@ -152,30 +105,41 @@ fn guess(f: i32, times: &[i32], near: &[i32], drops: &mut [u32]) -> u64
         let d = fall(times[i], near[i]);
         drops[i] = d;
         if 0 < d {
-            let most = wide(fall(times[i], f)) / wide(d);
+            let most = wide(fall(near[i], f)) / wide(d);
             if most < t {
                 t = most;
             }
         }
         i += 1;
     }
-    if 0 < t { t - 1 } else { 0 }
+    t
 }
 
-// Two repetitions tell whether there are more; of many passes, whose marks tell enough, all are tried at once.
-fn first_try(passes: usize, most: u64) -> u64 {
-    if passes < 64 { 1 } else { most }
+fn least(a: u64, b: u64) -> u64
+    ensures { λ r. ⌜ r ≤ a ⌝ }
+{
+    if a < b { a } else { b }
 }
 
-// What to try after the first: half as many, or what is left.
-fn next_try(first: u64, most: u64, steps: u64) -> u64 {
+// Two repetitions tell whether there are more; of many passes, whose marks tell enough, all that are left are tried at once.
+fn first_try(passes: usize, left: u64) -> u64 {
+    if passes < 64 { least(1, left) } else { left }
+}
+
+// The repetitions beyond one that are left after a try of t + 1, with so many steps.
+fn still_left(left: u64, t: u64, steps: u64) -> u64 {
     if steps < 1 {
-        return first / 2;
+        return left;
     }
-    if first < most { most - first - 1 } else { 0 }
+    if t < left { left - t - 1 } else { 0 }
 }
 
-// Repetitions of so many passes, about `most`, as many as the lockstep test allows: their steps.
+// What to try after the first: half as many, or all that are left.
+fn next_try(first: u64, left: u64, steps: u64) -> u64 {
+    if steps < 1 { first / 2 } else { left }
+}
+
+// Repetitions of so many passes, one and at most so many beyond it, as the lockstep test allows: their steps.
 fn repeat(
     xs: &[u16],
     ys: &[u16],
@@ -210,58 +174,18 @@ fn repeat(
         far,
         times,
     );
-    let mut t = next_try(first, most, s);
+    let mut left = still_left(most, first, s);
+    let mut t = next_try(first, left, s);
     while 0 < t {
         if 4611686018427387904 <= s {
             return s;
         }
-        s += leap(xs, ys, zs, ks, count, f, passes, t, drops, near, far, times);
-        t = t / 2;
+        let k = leap(xs, ys, zs, ks, count, f, passes, t, drops, near, far, times);
+        s += k;
+        left = still_left(left, t, k);
+        t = least(t / 2, left);
     }
     s
-}
-
-// One pass from the times, without an end: a guess, so that it promises nothing.
-fn try_pass(xs: &[u16], ys: &[u16], zs: &[u16], ks: &[i32], count: usize, f: i32, near: &mut [i32])
-    requires { ⌜ Columns (now xs) (now ys) (now zs) (now ks) count ⌝ }
-    requires { ⌜ NamedAll (rulesOf (now xs) (now ys) (now zs) (now ks) count) (length (now near)) (length (now near)) ⌝ }
-{
-    let mut i = 0;
-    while i < count {
-        let r = rule_at(xs, ys, zs, ks, i);
-        match stand_at(r, f, near) {
-            Stand::Low => {
-                lower(r, near);
-                i += 1;
-            }
-            Stand::Kept => {
-                i += 1;
-            }
-            Stand::Apart => {
-                i += 1;
-            }
-        }
-    }
-}
-
-fn try_passes(
-    xs: &[u16],
-    ys: &[u16],
-    zs: &[u16],
-    ks: &[i32],
-    count: usize,
-    f: i32,
-    passes: usize,
-    near: &mut [i32],
-)
-    requires { ⌜ Columns (now xs) (now ys) (now zs) (now ks) count ⌝ }
-    requires { ⌜ NamedAll (rulesOf (now xs) (now ys) (now zs) (now ks) count) (length (now near)) (length (now near)) ⌝ }
-{
-    let mut i = 0;
-    while i < passes {
-        try_pass(xs, ys, zs, ks, count, f, near);
-        i += 1;
-    }
 }
 
 // The same, with the drops and their number found by a try of the passes.
@@ -287,7 +211,10 @@ pub fn leaps(
         return 0;
     }
     copy(times, near);
-    try_passes(xs, ys, zs, ks, count, f, passes, near);
+    let p = plain_passes(xs, ys, zs, ks, count, f, passes as u64, near);
+    if !p.made {
+        return 0;
+    }
     let most = guess(f, times, near, drops);
     repeat(
         xs,

@@ -123,7 +123,7 @@ pub fn rounds(
 ) -> u64
     requires { ⌜ Columns (now xs) (now ys) (now zs) (now ks) count ⌝ }
     requires { ⌜ NamedAll (rulesOf (now xs) (now ys) (now zs) (now ks) count) (length (now near)) (length (now far)) ⌝ }
-    ensures { λ r. ⌜ Rounded (rulesOf (now (xs .entry)) (now (ys .entry)) (now (zs .entry)) (now (ks .entry)) count) f (now (near .entry)) (now (far .entry)) (now (near .exit)) (now (far .exit)) r ⌝ }
+    ensures { λ r. ⌜ Rounded (rulesOf (now (xs .entry)) (now (ys .entry)) (now (zs .entry)) (now (ks .entry)) count) f (now (near .entry)) (now (far .entry)) (now (near .exit)) (now (far .exit)) passes r ⌝ }
 {
     let mut s: u64 = 0;
     let mut i = 0;

@@ -8,6 +8,11 @@ ghost use Rattle.solver.specs.Replies.{NamedAll};
 ghost use Rattle.jump.specs.Leaps.{Passed, Sized};
 use crate::leaping::leaps;
 
+// The mark of a pass: its steps and the last of them in the low half, the minutes in the high half.
+pub fn mark(steps: u64, last: usize, minutes: u64) -> u16 {
+    ((steps % 1024 + (last as u64) % 1024 * 7) % 251 + (minutes % 251) * 256) as u16
+}
+
 // The later half of the first `seen` marks are those `p` before them, in the bits of the mask.
 fn repeats(marks: &[u16], seen: usize, p: usize, mask: u16) -> bool
     requires { ⌜ seen ≤ length (now marks) ⌝ }
@@ -24,7 +29,7 @@ fn repeats(marks: &[u16], seen: usize, p: usize, mask: u16) -> bool
 }
 
 // The least number of passes that repeat, or 0.
-fn period(marks: &[u16], seen: usize, mask: u16) -> usize
+pub fn period(marks: &[u16], seen: usize, mask: u16) -> usize
     requires { ⌜ seen ≤ length (now marks) ⌝ }
 {
     let mut p = 1;
@@ -37,8 +42,8 @@ fn period(marks: &[u16], seen: usize, mask: u16) -> usize
     0
 }
 
-// How the watch stands: the steps it took at once, the marks seen, how many to see before the next look, and how many passes to let
-// go unwatched.
+// How the watch stands: the steps of the passes it took at once, the marks seen, how many to see before the next look, and how many
+// passes to let go unwatched.
 pub struct Watched {
     pub steps: u64,
     pub seen: usize,
@@ -62,12 +67,12 @@ fn other(p: usize, q: usize) -> usize {
 
 // How the watch goes on after a look: from the start after a jump; else it looks later, and where the passes make more than a few
 // steps, as many again go unwatched, since watching costs time for each step.
-fn looked(steps: u64, p: usize, few: bool, seen: usize, look: usize) -> Watched
-    ensures { λ r. ⌜ r .steps ≡ steps ⌝ }
+fn looked(k: u64, p: usize, few: bool, seen: usize, look: usize) -> Watched
+    ensures { λ r. ⌜ r .steps ≡ k ⌝ }
 {
-    if 0 < steps {
+    if 0 < k {
         return Watched {
-            steps: steps,
+            steps: k,
             seen: 0,
             look: first_look(p),
             rest: 0,
@@ -75,14 +80,14 @@ fn looked(steps: u64, p: usize, few: bool, seen: usize, look: usize) -> Watched
     }
     if few {
         return Watched {
-            steps: steps,
+            steps: k,
             seen: seen,
             look: later(look),
             rest: 0,
         };
     }
     Watched {
-        steps: steps,
+        steps: k,
         seen: 0,
         look: later(look),
         rest: later(look),

@@ -1,11 +1,10 @@
 -- Jumps: a list of clause checks that decides alike at two assignments decides so at every assignment between them on their line, so that
 -- repetitions of it are one assignment. Over clauses with any number of arms. Assumes nothing.
-use mathlib.Core.Path.{_≡_, refl, sym, ap, subst, _∙_}
+use mathlib.Core.Path.{_≡_, refl, ap, subst, _∙_}
 use mathlib.Core.Bool.{Bool, true, false}
 use mathlib.Core.List.{List, [], _∷_}
 use Prim.Native.Nat.{ℕ, zero, suc, _+_, _*_, _≤_}
 use native.Mathlib.Nat.{mul-add, add-mul, suc-mul, zero-mul, mul-zero, mul-le-mul-left, eq-of-mul-eq-mul-left}
-use native.Mathlib.Numerals.{add-one}
 use native.Mathlib.Omega.{arith}
 use lib.ListN.{set}
 use lib.IntN.{ℤ, pos, _+ℤ_}
@@ -121,17 +120,23 @@ between some {floor = floor} (lower {c = c} a vn vf hn hf more) {m = m} l =
     }
 
 -- the passes from an assignment between, and where they end
-record Passed (p q : ℕ) (floor : ℤ) (cs : List Clause) (near mid far : List ℤ) (s : ℕ) : Type 0 where
+record Passed (p q : ℕ) (floor : ℤ) (cs : List Clause) (near mid far : List ℤ) (passes s : ℕ) : Type 0 where
   after : List ℤ
-  passing : Passing floor cs mid after s
+  passing : Passing floor cs 1 mid after passes s
   mids : Mids p q near after far
 
 module _ {floor : ℤ} {cs : List Clause} where
-  pub joined : {a b d : List ℤ} {s k : ℕ} → Passing floor cs a b s → Passing floor cs b d k → Passing floor cs a d (s + k)
-  joined {a = a} {d = d} {s = s} p start = subst (λ (n : ℕ). Passing floor cs a d n) (omega arith) p
-  joined {a = a} {d = d} {s = s} p (round {s = i} {k = k} q w h) = subst (λ (n : ℕ). Passing floor cs a d n) (omega arith) (round (joined p q) w h)
+  -- the same passes, counted otherwise
+  pub counted : {least : ℕ} {a b : List ℤ} {p q s k : ℕ} → p ≡ q → s ≡ k → Passing floor cs least a b p s → Passing floor cs least a b q k
+  counted {least = least} {a = a} {b = b} {q = q} {s = s} e d l =
+      subst (λ (n : ℕ). Passing floor cs least a b q n) d (subst (λ (n : ℕ). Passing floor cs least a b n s) e l)
 
-  passed : {p q : ℕ} → 1 ≤ p + q → {n f n′ f′ : List ℤ} {s : ℕ} → Rounds floor cs n f n′ f′ s → {m : List ℤ} → Mids p q n m f → Passed p q floor cs n′ m f′ s
+  pub joined : {least : ℕ} {a b d : List ℤ} {p q s k : ℕ} → Passing floor cs least a b p s → Passing floor cs least b d q k → Passing floor cs least a d (p + q) (s + k)
+  joined {least = least} {a = a} {d = d} l start = counted (omega arith) (omega arith) l
+  joined {least = least} {a = a} {d = d} l (round m w h) = counted (omega arith) (omega arith) (round (joined l m) w h)
+
+  passed : {p q : ℕ} → 1 ≤ p + q → {n f n′ f′ : List ℤ} {passes s : ℕ} → Rounds floor cs n f n′ f′ passes s → {m : List ℤ} → Mids p q n m f →
+      Passed p q floor cs n′ m f′ passes s
   passed some start l = record { after = _; passing = start; mids = l }
   passed some (round r k h) l =
       let a = passed some r l in
@@ -198,20 +203,84 @@ all-end : (q : ℕ) {b n c f m : List ℤ} {t : ℕ} → Aparts t b n c f → Mi
 all-end q none none = refl
 all-end q (next a l) (next h k) = rw (ends q h, all-end q l k)
 
-module _ {floor : ℤ} {cs : List Clause} {b c near far : List ℤ} {s : ℕ} (r : Rounds floor cs b c near far s) where
-  -- from the assignment q drops below b, of p + q
-  repeated : (p q : ℕ) {m : List ℤ} → 1 ≤ p + q → Aparts (p + q) b near c far → Mids p q b m c → Passing floor cs m far (suc p * s)
-  repeated zero zero some a l = absurd (omega arith)
-  repeated zero (suc q) {m = m} some a l =
-      let e = passed some r l in
-      subst (λ (n : ℕ). Passing floor cs m far n) (omega (arith, suc-mul zero s, zero-mul s)) (subst (λ (x : List ℤ). Passing floor cs m x s) (all-end q a (e .mids)) (e .passing))
-  repeated (suc p) q {m = m} some a l =
-      let e = passed some r l in
-      subst (λ (n : ℕ). Passing floor cs m far n) (omega (arith, suc-mul (suc p) s))
-      (joined (e .passing) (repeated p (suc q) (omega arith) (subst (λ (n : ℕ). Aparts n b near c far) (omega arith) a) (furthers p q a (e .mids))))
+-- every job lies q of its drops below b
+pub record Down (b near : List ℤ) (q : ℕ) (m : List ℤ) : Type 0 where
+  pub at : (job d : ℕ) → timeAt b job ≡ timeAt near job +ℤ pos d → timeAt b job ≡ timeAt m job +ℤ pos (q * d)
+
+-- between two ends that lie p + q drops apart, m lies q drops below the near one
+mid-down : (p q d : ℕ) {n m f : ℤ} → 1 ≤ p + q → n ≡ f +ℤ pos ((p + q) * d) → Mid p q n m f → n ≡ m +ℤ pos (q * d)
+mid-down p q d {n = n} {m = m} {f = f} some e h =
+    let w = m +ℤ pos (q * d) in
+    eq-make
+    (eq-of-mul-eq-mul-left (p + q) some (up n + dn w) (up w + dn n)
+    (omega (arith, h .is, scaled-drop (p + q) m (q * d) refl, scaled-drop q f ((p + q) * d) e)))
+
+apart-at : {t : ℕ} {b n c f : List ℤ} → Aparts t b n c f → (job : ℕ) → Apart t (timeAt b job) (timeAt n job) (timeAt c job) (timeAt f job)
+apart-at none job = record { drop = 0; near-is = refl; far-is = refl; apart = eq-make (omega arith) }
+apart-at (next a l) zero = a
+apart-at (next a l) (suc job) = apart-at l job
+
+-- it is enough to know it of the drops in the record
+by-drop : {t : ℕ} {b n c f m : List ℤ} (a : Aparts t b n c f) (q : ℕ) → ((job : ℕ) → timeAt b job ≡ timeAt m job +ℤ pos (q * apart-at a job .drop)) → Down b n q m
+by-drop {b = b} {n = n} {m = m} a q h =
+    record {
+      at = λ job d e.
+          subst (λ (x : ℕ). timeAt b job ≡ timeAt m job +ℤ pos (q * x))
+          (omega (arith, scaled-drop 1 (timeAt n job) d e, scaled-drop 1 (timeAt n job) (apart-at a job .drop) (apart-at a job .near-is))) (h job);
+    }
+
+-- before a repetition and after it
+module _ (p q : ℕ) {b n c f m : List ℤ} (some : 1 ≤ p + q) (a : Aparts (p + q) b n c f) where
+  down : Mids p q b m c → Down b n q m
+  down l = by-drop a q (λ job. mid-down p q (apart-at a job .drop) some (apart-at a job .apart) (mids-at l job))
+
+  down-next : Mids p q n m f → Down b n (suc q) m
+  down-next l =
+      by-drop a (suc q)
+      (λ job.
+      let h = apart-at a job in
+      let d = h .drop in
+      let x = timeAt n job in
+      let y = timeAt f job in
+      let z = timeAt m job in
+      let near : x ≡ y +ℤ pos ((p + q) * d) =
+      eq-make (omega (
+        arith,
+        scaled-drop 1 x d (h .near-is),
+        scaled-drop 1 y d (h .far-is),
+        scaled-drop 1 (timeAt c job) ((p + q) * d) (h .apart),
+        add-parts y (pos ((p + q) * d)),
+      )) in
+      eq-make (omega (
+        arith,
+        scaled-drop 1 x d (h .near-is),
+        scaled-drop 1 z (q * d) (mid-down p q d some near (mids-at l job)),
+        add-parts z (pos (suc q * d)),
+      )))
+
+module _ {floor : ℤ} {cs : List Clause} {b c near far : List ℤ} {passes s : ℕ} (r : Rounds floor cs b c near far passes s) (t : ℕ) (some : 1 ≤ t)
+    (a : Aparts t b near c far) where
+  -- what each repetition carries one drop further holds after t + 1 of them
+  module _ (G : ℕ → List ℤ → Type 0)
+      (turn : (q : ℕ) (m e : List ℤ) → Down b near q m → Down b near (suc q) e → Passing floor cs 1 m e passes s → G q m → G (suc q) e) where
+    -- from the assignment q drops below b, of p + q
+    repeated : (p q : ℕ) {m : List ℤ} → 1 ≤ p + q → p + q ≡ t → Aparts (p + q) b near c far → Mids p q b m c → G q m → G (suc t) far
+    repeated zero zero n e h l g = absurd (omega arith)
+    repeated zero (suc q) n e h l g =
+        let k = passed n r l in
+        subst (λ (n : ℕ). G n far) (omega arith)
+        (subst (G (suc (suc q))) (all-end q h (k .mids)) (turn (suc q) _ _ (down zero (suc q) n h l) (down-next zero (suc q) n h (k .mids)) (k .passing) g))
+    repeated (suc p) q n e h l g =
+        let k = passed n r l in
+        repeated p (suc q) (omega arith) (omega arith) (subst (λ (n : ℕ). Aparts n b near c far) (omega arith) h) (furthers p q h (k .mids))
+        (turn q _ _ (down (suc p) q n h l) (down-next (suc p) q n h (k .mids)) (k .passing) g)
+
+    pub repeats : G 0 b → G (suc t) far
+    repeats g = repeated t 0 (omega arith) (omega arith) (subst (λ (n : ℕ). Aparts n b near c far) (omega arith) a) (starts t a) g
 
   -- the jump: t + 1 repetitions
-  pub jump : (t : ℕ) → 1 ≤ t → Aparts t b near c far → Passing floor cs b far ((t + 1) * s)
-  jump t some a =
-      subst (λ (n : ℕ). Passing floor cs b far n) (ap (λ (n : ℕ). n * s) (sym (add-one t)))
-      (repeated t zero (omega arith) (subst (λ (n : ℕ). Aparts n b near c far) (omega arith) a) (starts t a))
+  pub jump : Passing floor cs 1 b far ((t + 1) * passes) ((t + 1) * s)
+  jump =
+      counted (omega arith) (omega arith)
+      (repeats (λ q m. Passing floor cs 1 b m (q * passes) (q * s)) (λ q m e h h′ k g. counted (omega arith) (omega arith) (joined g k))
+      (counted (omega arith) (omega arith) start))

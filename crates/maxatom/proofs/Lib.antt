@@ -7,6 +7,8 @@ pub mod Clauses
 pub mod SmallModels
 pub mod Derivations
 pub mod Jumps
+pub mod Parts
+pub mod Lines
 pub mod Rules
 pub mod Plans
 pub mod Classes

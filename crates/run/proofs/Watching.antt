@@ -28,7 +28,7 @@ module _ {jobs : ℕ} {rules : List Rule} where
   looping-walk {b′ = b′} {s = s} {k = k} l w some =
       looping-next l (record { times = b′; steps = s + k; end = unfinished }) (sym (walk-pass (floor rules) rules s w)) refl (λ e. omega arith)
 
-  pub looping-jump : {b b′ : List ℤ} {s k : ℕ} → Looping jobs rules b s → Passing (floor rules) (clausesOf rules) b b′ k → Looping jobs rules b′ (s + k)
+  pub looping-jump : {b b′ : List ℤ} {s p k : ℕ} → Looping jobs rules b s → Passing (floor rules) (clausesOf rules) 1 b b′ p k → Looping jobs rules b′ (s + k)
   looping-jump {b = b} {s = s} l start = subst (λ (n : ℕ). Looping jobs rules b n) (omega arith) l
   looping-jump {b′ = b′} {s = s} l (round {s = i} {k = k} p w some) =
       subst (λ (n : ℕ). Looping jobs rules b′ n) (omega arith) (looping-walk (looping-jump l p) w some)
@@ -41,10 +41,11 @@ named-all {jobs = jobs} {rules = rules} a size h =
     record { in-near = by; in-far = by }
 
 -- the run's loop, with the room that watching takes
-pub record Watching (jobs : ℕ) (rules : List Rule) (room : ℕ) (marks : List ℕ) (drops : List ℕ) (near far times : List ℤ) (s : ℕ) (sparse : Bool) (marked : ℕ) : Type 0 where
+pub record Watching (jobs : ℕ) (rules : List Rule) (room : ℕ) (marks : List ℕ) (was : List ℤ) (drops : List ℕ) (near far times : List ℤ) (s : ℕ) (sparse : Bool) (marked : ℕ) : Type 0 where
   pub looping : Looping jobs rules times s
   pub settled : sparse ≡ true → Settled rules times marked 0 0
   pub marks-size : length marks ≡ room
+  pub was-size : length was ≡ jobs
   pub sized : Sized jobs drops near far
 
 -- a pass, and what the watch took at once after it

@@ -17,7 +17,8 @@ ghost use Rattle.run.specs.Replies.{solvedReply, SolvedAs, Meaning};
 use crate::blocks::index;
 use crate::passing::pass;
 use derivation::Refusal;
-use jump::watch;
+use jump::mark;
+use parts::jump_on;
 use solver::clear;
 use table::Checked;
 use table::check_times;
@@ -29,11 +30,6 @@ pub enum Solved {
     Plan(u64),
     None(u64, u16),
     Refused(Refusal),
-}
-
-// The mark of a pass: its steps and the last of them in the low half, the minutes in the high half.
-fn mark(steps: u64, last: usize, minutes: u64) -> u16 {
-    ((steps % 1024 + (last as u64) % 1024 * 7) % 251 + (minutes % 251) * 256) as u16
 }
 
 // A pass made few steps for its rules.
@@ -67,6 +63,7 @@ fn finish(
     steps: u64,
     words: &[u64],
     marks: &mut [u16],
+    was: &mut [i32],
     drops: &mut [u32],
     near: &mut [i32],
     far: &mut [i32],
@@ -76,6 +73,7 @@ fn finish(
     requires { ⌜ Looping (length (now times)) (rulesOf (now xs) (now ys) (now zs) (now ks) count) (now times) steps ⌝ }
     requires { ⌜ f ≡ floor (rulesOf (now xs) (now ys) (now zs) (now ks) count) ⌝ }
     requires { ⌜ Reads (rulesOf (now xs) (now ys) (now zs) (now ks) count) (now words) ⌝ }
+    requires { ⌜ length (now was) ≡ length (now times) ⌝ }
     requires { ⌜ Sized (length (now times)) (now drops) (now near) (now far) ⌝ }
     ensures { λ r. ⌜ SolvedAs (solve (length (now (times .entry))) (rulesOf (now (xs .entry)) (now (ys .entry)) (now (zs .entry)) (now (ks .entry)) count)) r (now (times .exit)) ⌝ }
 {
@@ -85,6 +83,8 @@ fn finish(
     let mut seen: usize = 0;
     let mut look: usize = 16;
     let mut rest: usize = 0;
+    let mut since: usize = 0;
+    let mut wait: usize = 512;
     loop {
         let noted = rest < 1;
         let p = pass(
@@ -110,7 +110,7 @@ fn finish(
             return Solved::Plan(made);
         }
         let new = made - s;
-        let w = watch(
+        let w = jump_on(
             xs,
             ys,
             zs,
@@ -122,7 +122,10 @@ fn finish(
             seen,
             look,
             mark(new, p.last, p.minutes),
+            since,
+            wait,
             marks,
+            was,
             drops,
             near,
             far,
@@ -134,6 +137,8 @@ fn finish(
         seen = w.seen;
         look = w.look;
         rest = unnoted(w.rest, new, count);
+        since = w.since;
+        wait = w.wait;
     }
 }
 
@@ -148,6 +153,7 @@ fn finish_in(
     steps: u64,
     words: &mut [u64],
     marks: &mut [u16],
+    was: &mut [i32],
     drops: &mut [u32],
     near: &mut [i32],
     far: &mut [i32],
@@ -156,7 +162,7 @@ fn finish_in(
     requires { ⌜ Columns (now xs) (now ys) (now zs) (now ks) count ⌝ }
     requires { ⌜ Looping (length (now times)) (rulesOf (now xs) (now ys) (now zs) (now ks) count) (now times) steps ⌝ }
     requires { ⌜ f ≡ floor (rulesOf (now xs) (now ys) (now zs) (now ks) count) ⌝ }
-    requires { ⌜ length (now words) ≡ 256 ⌝ }
+    requires { ⌜ (length (now words) ≡ 256) × (length (now was) ≡ 256) ⌝ }
     requires { ⌜ Sized 256 (now drops) (now near) (now far) ⌝ }
     ensures { λ r. ⌜ SolvedAs (solve (length (now (times .entry))) (rulesOf (now (xs .entry)) (now (ys .entry)) (now (zs .entry)) (now (ks .entry)) count)) r (now (times .exit)) ⌝ }
 {
@@ -172,6 +178,7 @@ fn finish_in(
         steps,
         words,
         marks,
+        &mut was[..n],
         &mut drops[..n],
         &mut near[..n],
         &mut far[..n],
@@ -197,6 +204,7 @@ fn finish_long(
 {
     let mut words: [u64; 256] = [0; 256];
     let mut marks: [u16; 32768] = [0; 32768];
+    let mut was: [i32; 256] = [0; 256];
     let mut drops: [u32; 256] = [0; 256];
     let mut near: [i32; 256] = [0; 256];
     let mut far: [i32; 256] = [0; 256];
@@ -210,6 +218,7 @@ fn finish_long(
         steps,
         &mut words[..],
         &mut marks[..],
+        &mut was[..],
         &mut drops[..],
         &mut near[..],
         &mut far[..],

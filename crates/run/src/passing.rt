@@ -11,6 +11,7 @@ ghost use Rattle.run.specs.Blocks.{Reads, Settled, Tracked};
 ghost use Rattle.run.specs.Passing.{runOf, Running, Parted};
 use crate::blocks::is_marked;
 use crate::blocks::unmarked;
+use jump::weighed;
 use solver::is_satisfied;
 use solver::lower;
 use table::rule_at;
@@ -24,11 +25,6 @@ pub struct PassOut {
     pub marked: u64,
     pub last: usize,
     pub minutes: u64,
-}
-
-// Minutes weighed by a rule's number.
-fn weighed(minutes: u64, rule: usize) -> u64 {
-    (minutes % 4294967296) * ((rule as u64) % 1024 + 1)
 }
 
 // The rules of a pass from one to before another: a step on each violated one, and an end at once when a time falls below the floor.

@@ -11,6 +11,7 @@ pub use rule::is_equality;
 pub use rule::is_satisfied;
 pub use rule::is_tight;
 pub use rule::left_side;
+pub use rule::plus;
 pub use stepping::StepOut;
 pub use stepping::Stepped;
 pub use stepping::lower;

@@ -22,7 +22,7 @@ fn larger(a: i32, b: i32) -> i32
 }
 
 // A sum of two, which 64 bits hold whatever they are.
-fn plus(a: i32, b: i32) -> i64
+pub fn plus(a: i32, b: i32) -> i64
     ensures { λ r. ⌜ r ≡ a +ℤ b ⌝ }
 {
     (a as i64) + (b as i64)

@@ -14,6 +14,7 @@ use Rattle.maxatom.specs.Book.{floor}
 use Rattle.maxatom.specs.declared.Rule.{Rule}
 use Rattle.derivation.specs.Run.{passBound, pass}
 use Rattle.table.specs.Columns.{rulesOf}
+use Rattle.table.proofs.Rows.{rows-length}
 use Rattle.run.specs.Passing.{runOf, Looping}
 use Rattle.jump.specs.Leaps.{Passed}
 use Rattle.run.proofs.Runs.{size-of, few-fit, looping-more, solved-fell, solved-still}
@@ -22,11 +23,11 @@ use Rattle.run.proofs.finish.Statement.{statement}
 use Rattle.run.proofs.finish.Tie as tie
 
 abbrev Inv-loop : tie.InvT-loop
-Inv-loop xs ys zs ks count f steps words marks₀ drops₀ near₀ far₀ times₀ s₀ sparse₀ marked₀ seen₀ look₀ rest₀ marks drops near far times s sparse marked seen look rest =
-    Watching (length times₀) (rulesOf xs ys zs ks count) (length marks₀) marks drops near far times s sparse marked
+Inv-loop xs ys zs ks count f steps words marks₀ was₀ drops₀ near₀ far₀ times₀ s₀ sparse₀ marked₀ seen₀ look₀ rest₀ since₀ wait₀ marks was drops near far times s sparse marked seen look rest since wait =
+    Watching (length times₀) (rulesOf xs ys zs ks count) (length marks₀) marks was drops near far times s sparse marked
 
 abbrev μ-loop : tie.MeasureT-loop
-μ-loop xs ys zs ks count f steps words marks₀ drops₀ near₀ far₀ times₀ s₀ sparse₀ marked₀ seen₀ look₀ rest₀ marks drops near far times s sparse marked seen look rest =
+μ-loop xs ys zs ks count f steps words marks₀ was₀ drops₀ near₀ far₀ times₀ s₀ sparse₀ marked₀ seen₀ look₀ rest₀ since₀ wait₀ marks was drops near far times s sparse marked seen look rest since wait =
     passBound (length times₀) (rulesOf xs ys zs ks count) - s
 
 abbrev start : tie.At-loop Inv-loop μ-loop → tie.Start Inv-loop μ-loop
@@ -50,33 +51,36 @@ size c = c .pass .kept .1 .1 .1 .1 .1 .1 .1 .1 .1 .1 .0 ∙ size-of (at c .loop 
 
 -- the lengths are as they were
 module _ (l : tie.At-loop Inv-loop μ-loop) where
+  was-kept : length (l .loop .was) ≡ length (now (start l .args .was))
+  was-kept = l .loop .inv .was-size ∙ sym (start l .pre .1 .1 .1 .1 .0)
+
   drops-kept : length (l .loop .drops) ≡ length (now (start l .args .drops))
-  drops-kept = l .loop .inv .sized .drops-size ∙ sym (start l .pre .1 .1 .1 .1 .drops-size)
+  drops-kept = l .loop .inv .sized .drops-size ∙ sym (start l .pre .1 .1 .1 .1 .1 .drops-size)
 
   near-kept : length (l .loop .near) ≡ length (now (start l .args .near))
-  near-kept = l .loop .inv .sized .near-size ∙ sym (start l .pre .1 .1 .1 .1 .near-size)
+  near-kept = l .loop .inv .sized .near-size ∙ sym (start l .pre .1 .1 .1 .1 .1 .near-size)
 
   far-kept : length (l .loop .far) ≡ length (now (start l .args .far))
-  far-kept = l .loop .inv .sized .far-size ∙ sym (start l .pre .1 .1 .1 .1 .far-size)
+  far-kept = l .loop .inv .sized .far-size ∙ sym (start l .pre .1 .1 .1 .1 .1 .far-size)
 
--- after the watch: the pass before it, which neither fell nor stood still, and the steps taken at once
-module _ (c : tie.After-watch Inv-loop μ-loop) where
+-- after the jump: the pass before it, which neither fell nor stood still, and the steps taken at once
+module _ (c : tie.After-jump-on Inv-loop μ-loop) where
   abbrev passing : tie.After-pass Inv-loop μ-loop
-  passing = c .before .before .before .before .before .before .before .before .before .before .before
+  passing = c .before .before .before .before .before .before .before .before .before .before .before .before
 
-  abbrev inv : Watching (length (now (start (at passing) .args .times))) (rules (at passing)) (length (now (start (at passing) .args .marks))) (at passing .loop .marks) (at passing .loop .drops) (at passing .loop .near) (at passing .loop .far) (at passing .loop .times) (at passing .loop .s) (at passing .loop .sparse) (at passing .loop .marked)
+  abbrev inv : Watching (length (now (start (at passing) .args .times))) (rules (at passing)) (length (now (start (at passing) .args .marks))) (at passing .loop .marks) (at passing .loop .was) (at passing .loop .drops) (at passing .loop .near) (at passing .loop .far) (at passing .loop .times) (at passing .loop .s) (at passing .loop .sparse) (at passing .loop .marked)
   inv = at passing .loop .inv
 
   stands : passing .pass .result .fell ≡ false
-  stands = c .before .before .before .before .before .before .before .before .before .if1 .left
+  stands = c .before .before .before .before .before .before .before .before .before .before .if1 .left
 
   moved : passing .pass .result .steps ≡ at passing .loop .s → ⊥
-  moved = c .before .before .before .before .before .before .before .before .if2 .left
+  moved = c .before .before .before .before .before .before .before .before .before .if2 .left
 
-  taken : Passed (rules (at passing)) (floor (rules (at passing))) (passing .pass .last .1 .1 .1 .1 .1 .1 .1 .1 .1 .1 .0) (c .watch .last .1 .1 .1 .1 .1 .1 .1 .1 .1 .1 .1 .1 .1 .1 .1 .0) (c .watch .result .steps)
-  taken = rw (floor-is (at passing)) at (c .watch .ensures)
+  taken : Passed (rules (at passing)) (floor (rules (at passing))) (passing .pass .last .1 .1 .1 .1 .1 .1 .1 .1 .1 .1 .0) (c .jump-on .last .1 .1 .1 .1 .1 .1 .1 .1 .1 .1 .1 .1 .1 .1 .1 .1 .1 .1 .0) (c .jump-on .result .steps)
+  taken = rw (floor-is (at passing)) at (c .jump-on .ensures)
 
-  again : Looping (length (now (start (at passing) .args .times))) (rules (at passing)) (c .watch .last .1 .1 .1 .1 .1 .1 .1 .1 .1 .1 .1 .1 .1 .1 .1 .0) (passing .pass .result .steps + c .watch .result .steps)
+  again : Looping (length (now (start (at passing) .args .times))) (rules (at passing)) (c .jump-on .last .1 .1 .1 .1 .1 .1 .1 .1 .1 .1 .1 .1 .1 .1 .1 .1 .1 .1 .0) (passing .pass .result .steps + c .jump-on .result .steps)
   again = watched (inv .looping) (passing .pass .result) (said passing) stands moved taken
 
 pub finish-spec : {M : Type 1} → statement M
@@ -86,11 +90,12 @@ finish-spec =
     Inv-loop
     μ-loop
     (λ c. let p = c .before .before .before .before .before .before .pre in
-    record { looping = p .1 .0; settled = λ e. absurd (true≢false (sym e)); marks-size = refl; sized = p .1 .1 .1 .1 })
+    record { looping = p .1 .0; settled = λ e. absurd (true≢false (sym e)); marks-size = refl; was-size = p .1 .1 .1 .1 .0; sized = p .1 .1 .1 .1 .1 })
     (λ c κs. let l = c .before in
     let v = l .loop .inv in
     (start l .pre .0, (rw (size-of (v .looping .running)) (v .looping .running), (floor-is l, (λ e. start l .pre .1 .1 .1 .0, λ e. record { reads = start l .pre .1 .1 .1 .0; settled = v .settled e })))))
     (λ c. at (c .before .before) .loop .inv .marks-size)
+    (λ c. was-kept (at (c .before .before)))
     (λ c. drops-kept (at (c .before .before)))
     (λ c. near-kept (at (c .before .before)))
     (λ c. far-kept (at (c .before .before)))
@@ -98,6 +103,7 @@ finish-spec =
     (λ c. let d = c .before .before in
     solved-fell (at d .loop .inv .looping) (d .pass .result) _ (said d) (c .if1 .taken))
     (λ c. at (c .before .before .before) .loop .inv .marks-size)
+    (λ c. was-kept (at (c .before .before .before)))
     (λ c. drops-kept (at (c .before .before .before)))
     (λ c. near-kept (at (c .before .before .before)))
     (λ c. far-kept (at (c .before .before .before)))
@@ -107,21 +113,24 @@ finish-spec =
     (λ c. let d = c .before .before .before in omega (arith, looping-more (at d .loop .inv .looping) (runOf (d .pass .result) (d .pass .last .1 .1 .1 .1 .1 .1 .1 .1 .1 .1 .0)) (said d)))
     (λ c κs. search needs)
     (λ c κs. search needs)
-    (λ c κs. let d = c .before .before .before .before .before .before .before .before .before .before in
+    (λ c κs. let d = c .before .before .before .before .before .before .before .before .before .before .before in
     let v = at d .loop .inv in
-    (start (at d) .pre .0, rw (size d) (named-all (v .looping .running .accepted) _ (omega arith), v .sized)))
+    let k = v .looping .running .accepted in
+    let a = start (at d) .args in
+    (start (at d) .pre .0, rw (size d) (named-all k _ (omega arith), ((omega (arith, k .short, rows-length (now (a .xs)) (now (a .ys)) (now (a .zs)) (now (a .ks)) 0 (a .count)), k .few), (v .was-size, v .sized)))))
     (λ c κs. search needs)
-    (λ c. let k = c .before .before .before .before .before .before .before .before .before in omega (arith, few-fit (again k .running)))
+    (λ c. let k = c .before .before .before .before .before .before .before .before .before .before in omega (arith, few-fit (again k .running)))
     (λ c κs. search needs)
-    (λ c. let k = c .before .before .before .before .before .before .before .before .before .before in watched-less (inv k .looping) (passing k .pass .result) (said (passing k)) (stands k) (moved k) (taken k))
-    (λ c. let k = c .before .before .before .before .before .before .before .before .before .before in
-    let n = k .watch .kept in
+    (λ c. let k = c .before .before .before .before .before .before .before .before .before .before .before in watched-less (inv k .looping) (passing k .pass .result) (said (passing k)) (stands k) (moved k) (taken k))
+    (λ c. let k = c .before .before .before .before .before .before .before .before .before .before .before in
+    let n = k .jump-on .kept in
     let z = inv k .sized in
     record {
       looping = again k;
       settled = λ e.
           let q = c .before .before .is-sparse .ensures e in
           still-settled (taken k) (q .1) (passing k .pass .ensures .1 (q .0) (stands k));
-      marks-size = n .1 .1 .1 .1 .1 .1 .1 .1 .1 .1 .1 .0 ∙ inv k .marks-size;
-      sized = record { drops-size = n .1 .1 .1 .1 .1 .1 .1 .1 .1 .1 .1 .1 .0 ∙ z .drops-size; near-size = n .1 .1 .1 .1 .1 .1 .1 .1 .1 .1 .1 .1 .1 .0 ∙ z .near-size; far-size = n .1 .1 .1 .1 .1 .1 .1 .1 .1 .1 .1 .1 .1 .1 .0 ∙ z .far-size };
+      marks-size = n .1 .1 .1 .1 .1 .1 .1 .1 .1 .1 .1 .1 .1 .0 ∙ inv k .marks-size;
+      was-size = n .1 .1 .1 .1 .1 .1 .1 .1 .1 .1 .1 .1 .1 .1 .0 ∙ inv k .was-size;
+      sized = record { drops-size = n .1 .1 .1 .1 .1 .1 .1 .1 .1 .1 .1 .1 .1 .1 .1 .0 ∙ z .drops-size; near-size = n .1 .1 .1 .1 .1 .1 .1 .1 .1 .1 .1 .1 .1 .1 .1 .1 .0 ∙ z .near-size; far-size = n .1 .1 .1 .1 .1 .1 .1 .1 .1 .1 .1 .1 .1 .1 .1 .1 .1 .0 ∙ z .far-size };
     }))

@@ -6,14 +6,15 @@ use Rattle.run.proofs.finish_long.Tie as tie
 
 finish-in-requires : tie.Need-finish-in-requires
 finish-in-requires c κs =
-    let s = c .before .before .before .before .before .before .before .before .before in
+    let s = c .before .before .before .before .before .before .before .before .before .before in
     let p = s .pre in
-    (p .0, (p .1 .0, (toZ-ofZ (s .fits .f) ∙ p .1 .1, (refl, record { drops-size = refl; near-size = refl; far-size = refl }))))
+    (p .0, (p .1 .0, (toZ-ofZ (s .fits .f) ∙ p .1 .1, ((refl, refl), record { drops-size = refl; near-size = refl; far-size = refl }))))
 
 pub finish-long-spec : {M : Type 1} → statement M
 finish-long-spec =
     tie.close
     (tie.spec
+    (λ c. search needs)
     (λ c. search needs)
     (λ c. search needs)
     (λ c. search needs)

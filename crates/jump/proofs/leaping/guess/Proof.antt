@@ -20,9 +20,6 @@ loop-again c = search needs
 returns : tie.Need-returns Inv-loop μ-loop
 returns c = search needs
 
-returns-2 : tie.Need-returns-2 Inv-loop μ-loop
-returns-2 c = search needs
-
 pub guess-spec : {M : Type 1} → statement M
 guess-spec =
     tie.close
@@ -47,7 +44,4 @@ guess-spec =
     (λ c. search needs)
     loop-again
     (λ c. search needs)
-    (λ c. search needs)
-    returns
-    (λ c. search needs)
-    returns-2)
+    returns)

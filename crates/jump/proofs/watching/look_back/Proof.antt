@@ -2,13 +2,12 @@ use mathlib.Core.Path.{_≡_, sym, subst, _∙_}
 use mathlib.Core.List.{List}
 use lib.ListN.{length}
 use lib.IntN.{ℤ}
-use Prim.Native.Nat.{ℕ}
 use denote.Ref.{now}
 use mir.Facts.{toZ-ofZ}
 use Rattle.table.specs.Columns.{rulesOf}
 use Rattle.maxatom.specs.declared.Rule.{Rule}
 use Rattle.jump.specs.Leaps.{Passed}
-use Rattle.jump.proofs.Jumping.{passed-still}
+use Rattle.jump.proofs.Jumping.{passed-as, passed-still}
 use borrow.Author.Needs.{needs}
 use Rattle.jump.proofs.watching.look_back.Statement.{statement}
 use Rattle.jump.proofs.watching.look_back.Tie as tie
@@ -19,7 +18,7 @@ start c = c .before .before .before .before .before .before .before .before .bef
 abbrev rules : tie.After-leaps → List Rule
 rules c = let a = start c .args in rulesOf (now (a .xs)) (now (a .ys)) (now (a .zs)) (now (a .ks)) (a .count)
 
--- the first guess's steps, at the floor as it was given
+-- the passes of the first guess, at the floor as it was given
 passed : (c : tie.After-leaps) → Passed (rules c) (start c .args .f) (now (start c .args .times)) (c .leaps .last .1 .1 .1 .1 .1 .1 .1 .1 .1 .1 .0) (c .leaps .result)
 passed c =
     subst (λ (v : ℤ). Passed (rules c) v (now (start c .args .times)) (c .leaps .last .1 .1 .1 .1 .1 .1 .1 .1 .1 .1 .0) (c .leaps .result))
@@ -29,7 +28,7 @@ module _ (c : tie.After-leaps2) where
   abbrev before : tie.After-leaps
   before = c .before .before .before .before .before .before .before .before .before .before .before .before .before
 
-  -- the second's, where the first had none
+  -- those of the second, where the first had none
   passed-second : Passed (rules before) (start before .args .f) (now (start before .args .times)) (c .leaps2 .last .1 .1 .1 .1 .1 .1 .1 .1 .1 .1 .0) (c .leaps2 .result)
   passed-second =
       subst (λ (b : List ℤ). Passed (rules before) (start before .args .f) b (c .leaps2 .last .1 .1 .1 .1 .1 .1 .1 .1 .1 .1 .0) (c .leaps2 .result))
@@ -61,18 +60,18 @@ look-back-spec =
     (λ c. search needs)
     (λ c. search needs)
     (λ c. search needs)
-    (λ c. let d = c .before .before .before .before .before .before .before in subst (λ (n : ℕ). Passed (rules d) (start d .args .f) (now (start d .args .times)) (d .leaps .last .1 .1 .1 .1 .1 .1 .1 .1 .1 .1 .0) n) (sym (c .looked .ensures)) (passed d))
+    (λ c. passed-as (passed (c .before .before .before .before .before .before .before)) (c .looked .ensures))
     (λ c κs. c .before .before .before .before .before .before .before .before .before .before .before .before .before .before .before .before .before .pre .1 .1 .1)
     (λ c κs. search needs)
     (λ c κs. let d = c .before .before .before .before .before .before .before .before .before .before .before .before in
     let p = start d .pre in
     let k = d .leaps .kept in
-    (p .0, (rw (k .1 .1 .1 .1 .1 .1 .1 .1 .1 .1 .0) (p .1 .0), record { drops-size = k .1 .1 .1 .1 .1 .1 .1 .0 ∙ (p .1 .1 .0 .drops-size ∙ sym (k .1 .1 .1 .1 .1 .1 .1 .1 .1 .1 .0)); near-size = k .1 .1 .1 .1 .1 .1 .1 .1 .0 ∙ (p .1 .1 .0 .near-size ∙ sym (k .1 .1 .1 .1 .1 .1 .1 .1 .1 .1 .0)); far-size = k .1 .1 .1 .1 .1 .1 .1 .1 .1 .0 ∙ (p .1 .1 .0 .far-size ∙ sym (k .1 .1 .1 .1 .1 .1 .1 .1 .1 .1 .0)) })))
+    let e = sym (k .1 .1 .1 .1 .1 .1 .1 .1 .1 .1 .0) in
+    let z = p .1 .1 .0 in
+    (p .0, (rw (k .1 .1 .1 .1 .1 .1 .1 .1 .1 .1 .0) (p .1 .0), record { drops-size = k .1 .1 .1 .1 .1 .1 .1 .0 ∙ (z .drops-size ∙ e); near-size = k .1 .1 .1 .1 .1 .1 .1 .1 .0 ∙ (z .near-size ∙ e); far-size = k .1 .1 .1 .1 .1 .1 .1 .1 .1 .0 ∙ (z .far-size ∙ e) })))
     (λ c κs. search needs)
     (λ c. drops-kept (c .before .before .before .before .before .before))
     (λ c. near-kept (c .before .before .before .before .before .before))
     (λ c. far-kept (c .before .before .before .before .before .before))
     (λ c. times-kept (c .before .before .before .before .before .before))
-    (λ c. let e = c .before .before .before .before .before .before in
-    let d = before e in
-    subst (λ (n : ℕ). Passed (rules d) (start d .args .f) (now (start d .args .times)) (e .leaps2 .last .1 .1 .1 .1 .1 .1 .1 .1 .1 .1 .0) n) (sym (c .looked2 .ensures)) (passed-second e)))
+    (λ c. passed-as (passed-second (c .before .before .before .before .before .before)) (c .looked2 .ensures)))
