@@ -15,6 +15,7 @@ pub use plain::plain_pass;
 pub use plain::plain_passes;
 pub use plain::weighed;
 pub use watching::Watched;
+pub use watching::few;
 pub use watching::mark;
 pub use watching::period;
 pub use watching::watch;

@@ -65,32 +65,51 @@ fn other(p: usize, q: usize) -> usize {
     if p == q { 0 } else { q }
 }
 
-// How the watch goes on after a look: from the start after a jump; else it looks later, and where the passes make more than a few
-// steps, as many again go unwatched, since watching costs time for each step.
-fn looked(k: u64, p: usize, few: bool, seen: usize, look: usize) -> Watched
+// A pass made few steps for its rules.
+pub fn few(steps: u64, count: usize) -> bool {
+    steps < (count as u64) / 8
+}
+
+// A jump of so many steps was worth the look: passes of so many each would be several times as many as were seen.
+fn is_long(k: u64, made: u64, look: usize) -> bool {
+    if made < 1 {
+        return true;
+    }
+    (look as u64) < k / made / 4
+}
+
+// How many passes to let go unwatched after a look in vain: noting costs time for each step, so none where these are few.
+fn unwatched(made: u64, count: usize, look: usize) -> usize {
+    if few(made, count) {
+        0
+    } else {
+        later(later(later(look)))
+    }
+}
+
+// How the watch goes on after a look: from the start after a jump, later where the jump was short; else it looks later, and where the
+// marks were noted at a cost, begins anew.
+fn looked(k: u64, p: usize, made: u64, count: usize, seen: usize, look: usize) -> Watched
     ensures { λ r. ⌜ r .steps ≡ k ⌝ }
 {
     if 0 < k {
         return Watched {
             steps: k,
             seen: 0,
-            look: first_look(p),
+            look: if is_long(k, made, look) {
+                first_look(p)
+            } else {
+                later(look)
+            },
             rest: 0,
         };
     }
-    if few {
-        return Watched {
-            steps: k,
-            seen: seen,
-            look: later(look),
-            rest: 0,
-        };
-    }
+    let rest = unwatched(made, count, look);
     Watched {
         steps: k,
-        seen: 0,
+        seen: if rest < 1 { seen } else { 0 },
         look: later(look),
-        rest: later(look),
+        rest: rest,
     }
 }
 
@@ -102,7 +121,7 @@ fn look_back(
     ks: &[i32],
     count: usize,
     f: i32,
-    few: bool,
+    made: u64,
     seen: usize,
     look: usize,
     marks: &[u16],
@@ -120,14 +139,14 @@ fn look_back(
     let p = period(marks, seen, 65535);
     let k = leaps(xs, ys, zs, ks, count, f, p, drops, near, far, times);
     if 0 < k {
-        return looked(k, p, few, seen, look);
+        return looked(k, p, made, count, seen, look);
     }
     let q = other(p, period(marks, seen, 255));
     let j = leaps(xs, ys, zs, ks, count, f, q, drops, near, far, times);
-    looked(j, q, few, seen, look)
+    looked(j, q, made, count, seen, look)
 }
 
-// After a pass with mark `m`, of a few steps or more: notes it, and now and then looks back.
+// After a pass with mark `m` and so many steps: notes it, and now and then looks back.
 pub fn watch(
     xs: &[u16],
     ys: &[u16],
@@ -136,7 +155,7 @@ pub fn watch(
     count: usize,
     f: i32,
     rest: usize,
-    few: bool,
+    made: u64,
     seen: usize,
     look: usize,
     m: u16,
@@ -184,7 +203,7 @@ pub fn watch(
         ks,
         count,
         f,
-        few,
+        made,
         now,
         look,
         marks,

@@ -482,7 +482,7 @@ pub struct Jumped {
     pub wait: usize,
 }
 
-// After a pass with mark `m`: passes that repeat are taken at once, or else now and then those of the parts.
+// After a pass with mark `m` and so many steps: passes that repeat are taken at once, or else now and then those of the parts.
 pub fn jump_on(
     xs: &[u16],
     ys: &[u16],
@@ -491,7 +491,7 @@ pub fn jump_on(
     count: usize,
     f: i32,
     rest: usize,
-    few: bool,
+    made: u64,
     seen: usize,
     look: usize,
     m: u16,
@@ -519,7 +519,7 @@ pub fn jump_on(
         count,
         f,
         rest,
-        few,
+        made,
         seen,
         look,
         m,

@@ -17,6 +17,7 @@ ghost use Rattle.run.specs.Replies.{solvedReply, SolvedAs, Meaning};
 use crate::blocks::index;
 use crate::passing::pass;
 use derivation::Refusal;
+use jump::few;
 use jump::mark;
 use parts::jump_on;
 use solver::clear;
@@ -30,11 +31,6 @@ pub enum Solved {
     Plan(u64),
     None(u64, u16),
     Refused(Refusal),
-}
-
-// A pass made few steps for its rules.
-fn few(steps: u64, count: usize) -> bool {
-    steps < (count as u64) / 8
 }
 
 // The marks are to be trusted, since the pass was noted and no jump changed the times, and worth it.
@@ -118,7 +114,7 @@ fn finish(
             count,
             f,
             rest,
-            few(new, count),
+            new,
             seen,
             look,
             mark(new, p.last, p.minutes),

@@ -66,16 +66,16 @@ module _ (l : tie.At-loop Inv-loop μ-loop) where
 -- after the jump: the pass before it, which neither fell nor stood still, and the steps taken at once
 module _ (c : tie.After-jump-on Inv-loop μ-loop) where
   abbrev passing : tie.After-pass Inv-loop μ-loop
-  passing = c .before .before .before .before .before .before .before .before .before .before .before .before
+  passing = c .before .before .before .before .before .before .before .before .before .before .before
 
   abbrev inv : Watching (length (now (start (at passing) .args .times))) (rules (at passing)) (length (now (start (at passing) .args .marks))) (at passing .loop .marks) (at passing .loop .was) (at passing .loop .drops) (at passing .loop .near) (at passing .loop .far) (at passing .loop .times) (at passing .loop .s) (at passing .loop .sparse) (at passing .loop .marked)
   inv = at passing .loop .inv
 
   stands : passing .pass .result .fell ≡ false
-  stands = c .before .before .before .before .before .before .before .before .before .before .if1 .left
+  stands = c .before .before .before .before .before .before .before .before .before .if1 .left
 
   moved : passing .pass .result .steps ≡ at passing .loop .s → ⊥
-  moved = c .before .before .before .before .before .before .before .before .before .if2 .left
+  moved = c .before .before .before .before .before .before .before .before .if2 .left
 
   taken : Passed (rules (at passing)) (floor (rules (at passing))) (passing .pass .last .1 .1 .1 .1 .1 .1 .1 .1 .1 .1 .0) (c .jump-on .last .1 .1 .1 .1 .1 .1 .1 .1 .1 .1 .1 .1 .1 .1 .1 .1 .1 .1 .0) (c .jump-on .result .steps)
   taken = rw (floor-is (at passing)) at (c .jump-on .ensures)
@@ -112,8 +112,7 @@ finish-spec =
     solved-still (at d .loop .inv .looping) (d .pass .result) _ (said d) (c .before .if1 .left) (c .if2 .taken))
     (λ c. let d = c .before .before .before in omega (arith, looping-more (at d .loop .inv .looping) (runOf (d .pass .result) (d .pass .last .1 .1 .1 .1 .1 .1 .1 .1 .1 .1 .0)) (said d)))
     (λ c κs. search needs)
-    (λ c κs. search needs)
-    (λ c κs. let d = c .before .before .before .before .before .before .before .before .before .before .before in
+    (λ c κs. let d = c .before .before .before .before .before .before .before .before .before .before in
     let v = at d .loop .inv in
     let k = v .looping .running .accepted in
     let a = start (at d) .args in
