@@ -70,44 +70,43 @@ pub fn few(steps: u64, count: usize) -> bool {
     steps < (count as u64) / 8
 }
 
-// A jump of so many steps was worth the look: passes of so many each would be several times as many as were seen.
+// A jump of so many steps was worth the look: as passes of so many each it is several times as long as those seen.
 fn is_long(k: u64, made: u64, look: usize) -> bool {
     if made < 1 {
-        return true;
+        return false;
     }
     (look as u64) < k / made / 4
 }
 
-// How many passes to let go unwatched after a look in vain: noting costs time for each step, so none where these are few.
+// How many passes to let go unwatched after a look: noting costs time for each step, so none where these are few.
 fn unwatched(made: u64, count: usize, look: usize) -> usize {
-    if few(made, count) {
-        0
-    } else {
-        later(later(later(look)))
-    }
+    if few(made, count) { 0 } else { later(look) }
 }
 
-// How the watch goes on after a look: from the start after a jump, later where the jump was short; else it looks later, and where the
-// marks were noted at a cost, begins anew.
+// The marks that stay after a look: none where a jump was made, or passes go unwatched.
+fn still_seen(k: u64, rest: usize, seen: usize) -> usize {
+    if 0 < k {
+        return 0;
+    }
+    if 0 < rest { 0 } else { seen }
+}
+
+// How the watch goes on after a look: from the start after a long jump; else it looks later.
 fn looked(k: u64, p: usize, made: u64, count: usize, seen: usize, look: usize) -> Watched
     ensures { λ r. ⌜ r .steps ≡ k ⌝ }
 {
-    if 0 < k {
+    if is_long(k, made, look) {
         return Watched {
             steps: k,
             seen: 0,
-            look: if is_long(k, made, look) {
-                first_look(p)
-            } else {
-                later(look)
-            },
+            look: first_look(p),
             rest: 0,
         };
     }
     let rest = unwatched(made, count, look);
     Watched {
         steps: k,
-        seen: if rest < 1 { seen } else { 0 },
+        seen: still_seen(k, rest, seen),
         look: later(look),
         rest: rest,
     }

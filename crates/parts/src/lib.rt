@@ -245,6 +245,15 @@ fn measure_in(
     )
 }
 
+// More than one part that falls, beside the one that may not, and few for the wait, since each takes time to measure.
+fn are_few(parts: u16, wait: usize) -> bool {
+    if parts < 3 {
+        false
+    } else {
+        (parts as usize) <= wait / 16
+    }
+}
+
 // The parts as a guess, measured: how many, and how many passes to try.
 fn find_parts(
     xs: &[u16],
@@ -269,7 +278,7 @@ fn find_parts(
     requires { ⌜ length (now falls) ≡ length (now times) ⌝ }
 {
     let parts = label_in(xs, ys, zs, ks, count, was, times, labels);
-    if parts < 3 {
+    if !are_few(parts, wait) {
         return Found { parts: 0, most: 0 };
     }
     if !enough(passes_left(f, was, times), wait) {

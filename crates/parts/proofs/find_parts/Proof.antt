@@ -17,7 +17,7 @@ labels-kept c = c .label-in .kept .1 .1 .1 .1 .1 .1 .1 .0 ∙ c .before .before 
 
 measure-in-requires : tie.Need-measure-in-requires
 measure-in-requires c κs =
-    let k = c .before .before .before .before .before .before .before .before .before .before in
+    let k = c .before .before .before .before .before .before .before .before .before .before .before in
     let p = k .before .before .before .before .before .before .before .before .pre in
     let long = p .1 .1 .1 in
     (p .0, (p .1 .0, (p .1 .1 .0, ((labels-kept k, long .0 .1), (long .1 .0 .1, long .1 .1)))))
@@ -25,7 +25,7 @@ measure-in-requires c κs =
 longest-requires : tie.Need-longest-requires
 longest-requires c κs =
     let m = c .before .before .before .before .before .before .before .before in
-    let k = m .before .before .before .before .before .before .before .before .before .before .before in
+    let k = m .before .before .before .before .before .before .before .before .before .before .before .before in
     let p = k .before .before .before .before .before .before .before .before .pre in
     let long = p .1 .1 .1 in
     (p .0, (rw (labels-kept k) (p .1 .0), (m .measure-in .kept .1 .1 .1 .1 .1 .1 .1 .1 .1 .1 .1 .0 ∙ long .1 .0 .1, m .measure-in .kept .1 .1 .1 .1 .1 .1 .1 .1 .1 .1 .1 .1 .0 ∙ long .1 .1)))
@@ -35,6 +35,7 @@ find-parts-spec =
     tie.close
     (tie.spec
     label-in-requires
+    (λ c κs. search needs)
     (λ c. search needs)
     (λ c. search needs)
     (λ c κs. search needs)
