@@ -192,11 +192,14 @@ static void joined(Book *b, int o, int len, int other) {
     ring(b, len, other, o, REVERSE, 0, 0);
 }
 
-// Three, apart.
-static void three(Book *b, int o, int len, int other) {
-    apart(b, o, len, other);
+// More than two, with lengths two apart and the last with the jobs that are left; joined, job 0 is a second arm in each
+// of the others.
+static void many(Book *b, int o, int rings, int joined) {
     b->n = JOBS;
-    ring(b, len + other, JOBS - len - other, o, REVERSE, -1, 0);
+    for (int i = 0, at = 0, len; i < rings; i++, at += len) {
+        len = i + 1 < rings ? JOBS / rings - rings + 2 * i + 1 : JOBS - at;
+        ring(b, at, len, o, REVERSE, joined && i ? 0 : -1, 0);
+    }
 }
 
 // The paper's Example 1, u - o >= x after a chain of `deep` such rules; `none` adds its last rule.
@@ -327,7 +330,11 @@ static const Family families[] = {
     {"rings of 127 and 129, apart", apart, OFFSET, 127, 129, 30, 0},
     {"rings of 126 and 130, apart", apart, OFFSET, 126, 130, 30, 0},
     {"rings of 63 and 65, apart", apart, OFFSET, 63, 65, 200, 0},
-    {"rings of 83, 85 and 88, apart", three, OFFSET, 83, 85, 30, 0},
+    {"rings of 83, 85 and 88, apart", many, OFFSET, 3, 0, 30, 0},
+    {"five rings of 47 to 56, apart", many, OFFSET, 5, 0, 30, 0},
+    {"eight rings of 25 to 39, apart", many, OFFSET, 8, 0, 30, 0},
+    {"rings of 83, 85 and 88, joined", many, OFFSET, 3, 1, 30, 0},
+    {"five rings of 47 to 56, joined", many, OFFSET, 5, 1, 30, 0},
     {"ring of 2, offsets of 1 minute", one_ring, 1, 2, FORWARD, 0, 0},
     {"ring of 2", one_ring, OFFSET, 2, FORWARD, 0, 0},
     {"ring of 2, reverse", one_ring, OFFSET, 2, REVERSE, 0, 0},

@@ -277,10 +277,3 @@ module _ {floor : ℤ} {cs : List Clause} {b c near far : List ℤ} {passes s : 
 
     pub repeats : G 0 b → G (suc t) far
     repeats g = repeated t 0 (omega arith) (omega arith) (subst (λ (n : ℕ). Aparts n b near c far) (omega arith) a) (starts t a) g
-
-  -- the jump: t + 1 repetitions
-  pub jump : Passing floor cs 1 b far ((t + 1) * passes) ((t + 1) * s)
-  jump =
-      counted (omega arith) (omega arith)
-      (repeats (λ q m. Passing floor cs 1 b m (q * passes) (q * s)) (λ q m e h h′ k g. counted (omega arith) (omega arith) (joined g k))
-      (counted (omega arith) (omega arith) start))
