@@ -123,7 +123,7 @@ fn least(a: u64, b: u64) -> u64
 
 // Two repetitions tell whether there are more; of many passes, whose marks tell enough, all that are left are tried at once.
 fn first_try(passes: usize, left: u64) -> u64 {
-    if passes < 64 { least(1, left) } else { left }
+    if passes < 16 { least(1, left) } else { left }
 }
 
 // The repetitions beyond one that are left after a try of t + 1, with so many steps.
