@@ -98,7 +98,8 @@ static double now(void) {
 }
 
 // A straight run: its passes, or 0 where the limit in seconds came first, with the seconds per step of its second half.
-static uint64_t straight(const Book *b, Out *o, int limit, double *per_step) {
+// Compiled for any book, as solve is, and not for the one address that it is called with here.
+__attribute__((noipa)) static uint64_t straight(const Book *b, Out *o, int limit, double *per_step) {
     int32_t floor = floor_of(b);
     if (0 < floor)
         return o->words[0] = 2, 0;
