@@ -203,6 +203,22 @@ static void many(Book *b, int o, int rings, int joined) {
     }
 }
 
+// Rings of odd lengths in reverse order that all fall a minute a pass, each in rounds of its own, and a job that follows
+// the first job of each.
+static void followed(Book *b, int o, int rings, int unused) {
+    (void)unused;
+    b->n = JOBS;
+    int firsts[JOBS];
+    for (int i = 0, at = 0, len; i < rings; i++, at += len) {
+        len = i + 1 < rings ? JOBS / rings - rings + 2 * i + 1 : JOBS - 1 - at;
+        firsts[i] = at;
+        for (int r = len - 1; r >= 0; r--)
+            rule(b, at + (r + len - 1) % len, at + (r + len - 1) % len, r == 0 ? 1 - len : r % 2 ? o : -o, at + r);
+    }
+    for (int i = 0; i < rings; i++)
+        rule(b, firsts[i], firsts[i], 0, JOBS - 1);
+}
+
 // The paper's Example 1, u - o >= x after a chain of `deep` such rules; `none` adds its last rule.
 static void example(Book *b, int o, int deep, int none) {
     b->n = deep + 3;
@@ -336,6 +352,7 @@ static const Family families[] = {
     {"eight rings of 25 to 39, apart", many, OFFSET, 8, 0, 30, 0},
     {"rings of 83, 85 and 88, joined", many, OFFSET, 3, 1, 30, 0},
     {"five rings of 47 to 56, joined", many, OFFSET, 5, 1, 30, 0},
+    {"rings of 83, 85 and 87 at one rate, and a job below", followed, OFFSET, 3, 0, 0, 0},
     {"ring of 2, offsets of 1 minute", one_ring, 1, 2, FORWARD, 0, 0},
     {"ring of 2", one_ring, OFFSET, 2, FORWARD, 0, 0},
     {"ring of 2, reverse", one_ring, OFFSET, 2, REVERSE, 0, 0},
