@@ -1,11 +1,11 @@
 -- Parts of a book: jobs with the same label, what is left of each rule for the part of its third job, and how the times of a part fall.
 use mathlib.Core.Path.{_≡_}
 use mathlib.Core.Logic.{_⊎_}
-use mathlib.Core.Bool.{Bool, true, false, cond, _&&_, not}
+use mathlib.Core.Bool.{Bool, true, cond, _&&_, not}
 use mathlib.Core.List.{List, [], _∷_, _++_}
 use Prim.Native.Nat.{ℕ, _+_, _*_, _<_, _≤_}
 use lib.Dec.{eqb, ltb}
-use lib.ListN.{length, getD}
+use lib.ListN.{getD}
 use lib.IntN.{ℤ, pos, _+ℤ_}
 use lib.Signed.{_≤ℤ_, leZ}
 use Rattle.maxatom.specs.Rule.{timeAt}
@@ -28,19 +28,22 @@ armsLeft labels times r =
     (cond far Both (cond (leZ (timeAt times (r .y)) (timeAt times (r .x))) First Neither))
     (cond far (cond (leZ (timeAt times (r .x)) (timeAt times (r .y))) Second Neither) Neither)
 
+-- the rule with one of its arms for both
 abbrev pub oneArm : ℕ → Rule → Rule
 oneArm job r = record { x = job; y = job; z = r .z; k = r .k }
 
+-- what is left, as a rule or none
 unfoldable pub leftover : Arms → Rule → List Rule
 leftover Both r = r ∷ []
 leftover First r = oneArm (r .x) r ∷ []
 leftover Second r = oneArm (r .y) r ∷ []
 leftover Neither r = []
 
--- of the parts from one label to before another
+-- a label from one to before another
 abbrev pub among : ℕ → ℕ → ℕ → Bool
 among from to label = not (ltb label from) && ltb label to
 
+-- what is left of the rules in the parts with those labels
 unfoldable pub pick : ℕ → ℕ → List ℕ → List ℤ → List Rule → List Rule
 pick from to labels times [] = []
 pick from to labels times (r ∷ rules) =
