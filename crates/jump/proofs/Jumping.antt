@@ -17,9 +17,9 @@ use Rattle.table.proofs.Signed.{fits-make, fits-read}
 use Rattle.maxatom.specs.Rule.{timeAt, maxZ, leftSide, satisfied}
 use Rattle.maxatom.specs.declared.Rule.{Rule}
 use Rattle.maxatom.specs.Clauses.{Clause, here, there, leftOf, stepped, clauseOf, clausesOf}
-use Rattle.maxatom.specs.Jumps.{SameArm, Walk, Lockstep, done, keep, lower, Rounds, Passing, start, round}
+use Rattle.maxatom.specs.Jumps.{SameArm, SameKeeper, Walk, Lockstep, done, keep, lower, Rounds, Passing, start, round}
 use Rattle.maxatom.proofs.Choose.{cond-yes, cond-no}
-use Rattle.maxatom.proofs.Integers.{up, dn, le-read, le-make, eq-make, add-parts}
+use Rattle.maxatom.proofs.Integers.{up, dn, le-read, le-make, eq-make, add-parts, add-mono, max-under, ≤ℤ-trans}
 use Rattle.maxatom.proofs.Lists.{set-time}
 use Rattle.maxatom.proofs.Rules.{left-same, keeps}
 use Rattle.maxatom.proofs.Jumps.{counted, joined, Apart, Aparts, none, next}
@@ -28,7 +28,7 @@ use Rattle.maxatom.proofs.Parts.{forget}
 use Rattle.table.specs.Columns.{ruleOf, rulesFrom, rulesOf}
 use Rattle.table.proofs.Rows.{rows-next, rows-end, rows-length, rows-at}
 use Rattle.solver.specs.Replies.{Named, NamedAll}
-use Rattle.jump.specs.Leaps.{Steppable, BothKept, BothLow, Locked, Rounded, Walked, Sized, Spread, Dropped, Passed, Leapt}
+use Rattle.jump.specs.Leaps.{oneArm, Steppable, BothKept, by-first, by-second, BothLow, Locked, Rounded, Walked, Sized, Spread, Dropped, Passed, Leapt}
 
 -- between two numbers of 32 bits
 pub fits-between : {f z t : ℤ} → SFits w32 f → SFits w32 t → f ≤ℤ z → z ≤ℤ t → SFits w32 z
@@ -85,6 +85,18 @@ same-arm r near far e = go (ltZ (timeAt near (r .x)) (timeAt near (r .y))) refl
     go : (t : Bool) → ltZ (timeAt near (r .x)) (timeAt near (r .y)) ≡ t → SameArm near far (clauseOf r)
     go true q = record { arm = record { job = r .y; offset = r .k }; among = there here; near-is = second near q; far-is = second far (sym e ∙ q) }
     go false q = record { arm = record { job = r .x; offset = r .k }; among = here; near-is = first near q; far-is = first far (sym e ∙ q) }
+
+-- what one arm keeps at both
+arm-kept : (r : Rule) (job : ℕ) (b : List ℤ) → satisfied (oneArm job r) b ≡ true → timeAt b (r .z) ≤ℤ (timeAt b job +ℤ r .k)
+unfolding leftSide
+arm-kept r job b t =
+    let v = timeAt b job in
+    ≤ℤ-trans (rw (left-same (oneArm job r) b) at (keeps (oneArm job r) b t)) (add-mono (maxZ v v) v (r .k) (max-under v v v (le-make (omega arith)) (le-make (omega arith))))
+
+module _ (r : Rule) (near far : List ℤ) where
+  same-keeper : BothKept r near far → SameKeeper near far (clauseOf r)
+  same-keeper (by-first n m) = record { arm = record { job = r .x; offset = r .k }; among = here; near-kept = arm-kept r (r .x) near n; far-kept = arm-kept r (r .x) far m }
+  same-keeper (by-second n m) = record { arm = record { job = r .y; offset = r .k }; among = there here; near-kept = arm-kept r (r .y) near n; far-kept = arm-kept r (r .y) far m }
 
 -- a step on a rule, as one on its clause
 module _ (r : Rule) (t : List ℤ) where
@@ -164,7 +176,7 @@ module _ {xs ys zs : List ℕ} {ks : List ℤ} {count : ℕ} {f : ℤ} {near₀ 
       record {
         near-size = g .near-size;
         far-size = g .far-size;
-        going = going-kept (g .going) h (λ end k l. keep (same-arm rule near far (b .same)) (keeps rule near (b .near-kept)) (keeps rule far (b .far-kept)) l);
+        going = going-kept (g .going) h (λ end k l. keep (same-keeper rule near far b) l);
       }
 
   pub locking-low : i < count → BothLow rule f near far → {n f₁ : List ℤ} → n ≡ set near (rule .z) (leftSide rule near) → f₁ ≡ set far (rule .z) (leftSide rule far) →

@@ -1,18 +1,30 @@
 -- What the functions of jumps take and answer.
 use mathlib.Core.Path.{_≡_}
-use mathlib.Core.Bool.{Bool, true, false}
-use mathlib.Core.List.{List}
+use mathlib.Core.Bool.{Bool, true, false, cond}
+use mathlib.Core.List.{List, [], _∷_}
 use Prim.Native.Nat.{ℕ, _+_, _*_, _<_, _≤_, _^_}
 use lib.ListN.{length, getD}
 use lib.IntN.{ℤ, pos, _+ℤ_}
 use lib.Signed.{_≤ℤ_, ltZ}
 use Rattle.maxatom.specs.Rule.{timeAt, leftSide, satisfied}
 use Rattle.maxatom.specs.declared.Rule.{Rule}
+use Rattle.maxatom.specs.Class.{idle}
 use Rattle.maxatom.specs.Clauses.{clausesOf}
 use Rattle.maxatom.specs.Jumps.{Walk, Lockstep, Rounds, Passing, Traced, Along}
 use Rattle.solver.specs.Replies.{Lowerable}
 use Rattle.jump.specs.declared.lockstep.Stand.{Stand}
 use Rattle.jump.specs.declared.lockstep.Stand.the-variants.{Kept, Low, Apart}
+
+-- all rules but the tautologies
+unfoldable pub proper : List Rule → List Rule
+proper [] = []
+proper (r ∷ rules) =
+    let rest = proper rules in
+    cond (idle r) rest (r ∷ rest)
+
+-- the rule with one of its arms for both
+abbrev pub oneArm : ℕ → Rule → Rule
+oneArm job r = record { x = job; y = job; z = r .z; k = r .k }
 
 -- how a rule stands at an assignment: a step on it would not fall
 pub record Steppable (r : Rule) (f : ℤ) (times : List ℤ) : Type 0 where
@@ -24,11 +36,10 @@ Stands r f times Kept = satisfied r times ≡ true
 Stands r f times Low = Steppable r f times
 Stands r f times Apart = Unit {0}
 
--- and at two, with the same larger arm
-pub record BothKept (r : Rule) (near far : List ℤ) : Type 0 where
-  pub same : ltZ (timeAt near (r .x)) (timeAt near (r .y)) ≡ ltZ (timeAt far (r .x)) (timeAt far (r .y))
-  pub near-kept : satisfied r near ≡ true
-  pub far-kept : satisfied r far ≡ true
+-- and at two: kept at both by one arm, or violated at both with the same larger arm
+pub data BothKept (r : Rule) (near far : List ℤ) : Type 0 where
+  by-first : satisfied (oneArm (r .x) r) near ≡ true → satisfied (oneArm (r .x) r) far ≡ true → BothKept r near far
+  by-second : satisfied (oneArm (r .y) r) near ≡ true → satisfied (oneArm (r .y) r) far ≡ true → BothKept r near far
 
 pub record BothLow (r : Rule) (f : ℤ) (near far : List ℤ) : Type 0 where
   pub same : ltZ (timeAt near (r .x)) (timeAt near (r .y)) ≡ ltZ (timeAt far (r .x)) (timeAt far (r .y))

@@ -1,10 +1,14 @@
+mod columns;
 mod leaping;
 mod lockstep;
 mod minutes;
 mod plain;
 mod watching;
 
+pub use columns::put;
+pub use columns::take_proper;
 pub use leaping::leap;
+pub use lockstep::one_arm;
 pub use minutes::copy;
 pub use minutes::earlier;
 pub use minutes::fall;

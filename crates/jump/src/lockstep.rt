@@ -6,8 +6,10 @@ ghost use lib.IntN.{ℤ};
 ghost use lib.Signed.{ltZ};
 ghost use Rattle.table.specs.Columns.{rulesOf, Columns};
 ghost use Rattle.solver.specs.Replies.{Named, NamedAll};
-ghost use Rattle.jump.specs.Leaps.{Stands, StandBoth, Locked, Rounded};
+ghost use Rattle.maxatom.specs.Rule.{satisfied};
+ghost use Rattle.jump.specs.Leaps.{oneArm, Stands, StandBoth, Locked, Rounded};
 use maxatom::Rule;
+use solver::is_satisfied;
 use solver::left_side;
 use solver::lower;
 use table::rule_at;
@@ -46,12 +48,43 @@ fn same_order(a: i32, b: i32, c: i32, d: i32) -> bool
     }
 }
 
-// The same arm is the larger at both, and the rule stands alike.
+// The rule with one of its arms for both.
+pub fn one_arm(r: Rule, job: u16) -> Rule
+    ensures { λ s. ⌜ s ≡ oneArm job r ⌝ }
+{
+    Rule {
+        x: job,
+        y: job,
+        z: r.z,
+        k: r.k,
+    }
+}
+
+// A rule is satisfied at both.
+fn both_satisfied(r: Rule, near: &[i32], far: &[i32]) -> bool
+    requires { ⌜ Named r (length (now near)) ⌝ }
+    requires { ⌜ Named r (length (now far)) ⌝ }
+    ensures { λ b. ⌜ (b ≡ true → (satisfied r (now (near .entry)) ≡ true) × (satisfied r (now (far .entry)) ≡ true)) ⌝ }
+{
+    if is_satisfied(r, near) {
+        is_satisfied(r, far)
+    } else {
+        false
+    }
+}
+
+// One arm keeps the rule at both; or it is violated at both, and the same arm is the larger.
 fn stand_both(r: Rule, f: i32, near: &[i32], far: &[i32]) -> Stand
     requires { ⌜ Named r (length (now near)) ⌝ }
     requires { ⌜ Named r (length (now far)) ⌝ }
     ensures { λ s. ⌜ StandBoth r f (now (near .entry)) (now (far .entry)) s ⌝ }
 {
+    if both_satisfied(one_arm(r, r.x), near, far) {
+        return Stand::Kept;
+    }
+    if both_satisfied(one_arm(r, r.y), near, far) {
+        return Stand::Kept;
+    }
     let x = r.x as usize;
     let y = r.y as usize;
     if !same_order(near[x], near[y], far[x], far[y]) {
@@ -59,11 +92,7 @@ fn stand_both(r: Rule, f: i32, near: &[i32], far: &[i32]) -> Stand
     }
     match stand_at(r, f, near) {
         Stand::Apart => Stand::Apart,
-        Stand::Kept => match stand_at(r, f, far) {
-            Stand::Apart => Stand::Apart,
-            Stand::Kept => Stand::Kept,
-            Stand::Low => Stand::Apart,
-        },
+        Stand::Kept => Stand::Apart,
         Stand::Low => match stand_at(r, f, far) {
             Stand::Apart => Stand::Apart,
             Stand::Kept => Stand::Apart,

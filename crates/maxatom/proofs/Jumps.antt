@@ -11,7 +11,7 @@ use lib.IntN.{ℤ, pos, _+ℤ_}
 use lib.Signed.{_≤ℤ_, _<ℤ_, leZ, ltZ}
 use Rattle.maxatom.specs.Rule.{timeAt}
 use Rattle.maxatom.specs.Clauses.{In, Arm, Clause, armTime, leftOf, Keeps, stepped}
-use Rattle.maxatom.specs.Jumps.{SameArm, Walk, Lockstep, done, keep, lower, Rounds, Passing, start, round}
+use Rattle.maxatom.specs.Jumps.{SameArm, SameKeeper, Walk, Lockstep, done, keep, lower, Rounds, Passing, start, round}
 use Rattle.maxatom.proofs.Integers.{up, dn, le-read, le-make, lt-read, eq-make, add-parts, le-true, le-false, lt-true, lt-false, ≤ℤ-trans}
 use Rattle.maxatom.proofs.Clauses.{reaching, reached}
 
@@ -81,22 +81,27 @@ module _ {p q : ℕ} where
   mids-set zero (next g l) h = next h l
   mids-set (suc job) (next g l) h = next g (mids-set job l h)
 
--- and so between them
-module _ {p q : ℕ} (some : 1 ≤ p + q) {near mid far : List ℤ} (l : Mids p q near mid far) (c : Clause) (s : SameArm near far c) where
-  arm-mid : (a : Arm) → Mid p q (armTime (timeAt near) a) (armTime (timeAt mid) a) (armTime (timeAt far) a)
-  arm-mid a = mid-add (a .offset) (mids-at l (a .job))
+  arm-mid : {near mid far : List ℤ} → Mids p q near mid far → (a : Arm) → Mid p q (armTime (timeAt near) a) (armTime (timeAt mid) a) (armTime (timeAt far) a)
+  arm-mid l a = mid-add (a .offset) (mids-at l (a .job))
 
+-- what one arm keeps at both, it keeps between them
+kept-mid : {p q : ℕ} → 1 ≤ p + q → {near mid far : List ℤ} → Mids p q near mid far → (c : Clause) → SameKeeper near far c → Keeps (timeAt mid) c
+kept-mid some {mid = mid} l c s =
+    ≤ℤ-trans (mid-le some (mids-at l (c .target)) (arm-mid l (s .arm)) (s .near-kept) (s .far-kept)) (reached (timeAt mid) (c .first) (c .others) (s .among))
+
+-- the larger arm at both is the larger between them
+module _ {p q : ℕ} (some : 1 ≤ p + q) {near mid far : List ℤ} (l : Mids p q near mid far) (c : Clause) (s : SameArm near far c) where
   left-is : leftOf (timeAt mid) c ≡ armTime (timeAt mid) (s .arm)
   left-is =
       let r = reaching (timeAt mid) (c .first) (c .others) (leftOf (timeAt mid) c) (le-make (omega arith)) in
       let under : armTime (timeAt mid) (r .arm) ≤ℤ armTime (timeAt mid) (s .arm) =
-      mid-le some (arm-mid (r .arm)) (arm-mid (s .arm))
+      mid-le some (arm-mid l (r .arm)) (arm-mid l (s .arm))
       (subst (λ (v : ℤ). armTime (timeAt near) (r .arm) ≤ℤ v) (s .near-is) (reached (timeAt near) (c .first) (c .others) (r .among)))
       (subst (λ (v : ℤ). armTime (timeAt far) (r .arm) ≤ℤ v) (s .far-is) (reached (timeAt far) (c .first) (c .others) (r .among))) in
       eq-make (omega (arith, le-read (r .reaches), le-read under, le-read (reached (timeAt mid) (c .first) (c .others) (s .among))))
 
   left-mid : Mid p q (leftOf (timeAt near) c) (leftOf (timeAt mid) c) (leftOf (timeAt far) c)
-  left-mid = rw (s .near-is, s .far-is, left-is) (arm-mid (s .arm))
+  left-mid = rw (s .near-is, s .far-is, left-is) (arm-mid l (s .arm))
 
 -- the walk from an assignment between, and where it ends
 pub record Between (p q : ℕ) (floor : ℤ) (cs : List Clause) (near mid far : List ℤ) (s : ℕ) : Type 0 where
@@ -107,9 +112,9 @@ pub record Between (p q : ℕ) (floor : ℤ) (cs : List Clause) (near mid far : 
 pub between : {p q : ℕ} → 1 ≤ p + q → {floor : ℤ} {cs : List Clause} {n f n′ f′ : List ℤ} {s : ℕ} → Lockstep floor cs n f n′ f′ s →
     {m : List ℤ} → Mids p q n m f → Between p q floor cs n′ m f′ s
 between some done l = record { after = _; walk = done; mids = l }
-between some (keep {c = c} a kn kf more) {m = m} l =
+between some (keep {c = c} a more) l =
     let r = between some more l in
-    record { after = r .after; walk = keep (mid-le some (mids-at l (c .target)) (left-mid some l c a) kn kf) (r .walk); mids = r .mids }
+    record { after = r .after; walk = keep (kept-mid some l c a) (r .walk); mids = r .mids }
 between some {floor = floor} (lower {c = c} a vn vf hn hf more) {m = m} l =
     let left = left-mid some l c a in
     let r = between some more (mids-set (c .target) l left) in

@@ -14,6 +14,13 @@ pub record SameArm (near far : List ℤ) (c : Clause) : Type 0 where
   pub near-is : leftOf (timeAt near) c ≡ armTime (timeAt near) arm
   pub far-is : leftOf (timeAt far) c ≡ armTime (timeAt far) arm
 
+-- one arm keeps the clause at both, whichever is the larger
+pub record SameKeeper (near far : List ℤ) (c : Clause) : Type 0 where
+  pub arm : Arm
+  pub among : In arm (c .first ∷ c .others)
+  pub near-kept : timeAt near (c .target) ≤ℤ armTime (timeAt near) arm
+  pub far-kept : timeAt far (c .target) ≤ℤ armTime (timeAt far) arm
+
 -- a walk: each clause is kept, or stepped on without a fall below the floor; so many steps
 pub data Walk (floor : ℤ) : List Clause → List ℤ → List ℤ → ℕ → Type 0 where
   done : {b : List ℤ} → Walk floor [] b b 0
@@ -21,10 +28,10 @@ pub data Walk (floor : ℤ) : List Clause → List ℤ → List ℤ → ℕ → 
   lower : {c : Clause} {cs : List Clause} {b b′ : List ℤ} {s : ℕ} → leftOf (timeAt b) c <ℤ timeAt b (c .target) → floor ≤ℤ leftOf (timeAt b) c →
       Walk floor cs (stepped b c) b′ s → Walk floor (c ∷ cs) b b′ (s + 1)
 
--- two walks with the same decisions: near and far, before and after
+-- two walks with the same decisions: near and far, before and after; the same arm keeps a clause at both, or is the larger at both
 pub data Lockstep (floor : ℤ) : List Clause → List ℤ → List ℤ → List ℤ → List ℤ → ℕ → Type 0 where
   done : {n f : List ℤ} → Lockstep floor [] n f n f 0
-  keep : {c : Clause} {cs : List Clause} {n f n′ f′ : List ℤ} {s : ℕ} → SameArm n f c → Keeps (timeAt n) c → Keeps (timeAt f) c →
+  keep : {c : Clause} {cs : List Clause} {n f n′ f′ : List ℤ} {s : ℕ} → SameKeeper n f c →
       Lockstep floor cs n f n′ f′ s → Lockstep floor (c ∷ cs) n f n′ f′ s
   lower : {c : Clause} {cs : List Clause} {n f n′ f′ : List ℤ} {s : ℕ} → SameArm n f c →
       leftOf (timeAt n) c <ℤ timeAt n (c .target) → leftOf (timeAt f) c <ℤ timeAt f (c .target) →

@@ -18,7 +18,8 @@ use Rattle.maxatom.proofs.Lines.{stays, along-shift}
 use Rattle.maxatom.proofs.Parts.{Trimmed, nothing, drop, swap, trimmed}
 use Rattle.table.specs.Columns.{ruleOf, rulesFrom, rulesOf}
 use Rattle.table.proofs.Rows.{rows-next, rows-end}
-use Rattle.parts.specs.Parts.{labelAt, armsLeft, oneArm, leftover, pick, Line, Staying, Above, RuleAllowed, Allowed}
+use Rattle.jump.specs.Leaps.{oneArm}
+use Rattle.parts.specs.Parts.{labelAt, armsLeft, leftover, pick, Line, Staying, Above, RuleAllowed, Allowed}
 use Rattle.parts.specs.declared.trimming.Arms.{Arms}
 use Rattle.parts.specs.declared.trimming.Arms.the-variants.{Both, First, Second, Neither}
 

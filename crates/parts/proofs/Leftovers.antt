@@ -21,7 +21,9 @@ use Rattle.derivation.proofs.AnyOrder.{each-at}
 use Rattle.table.specs.Columns.{ruleOf, rulesFrom, rulesOf, Columns}
 use Rattle.table.proofs.Rows.{rows-next, rows-end}
 use Rattle.solver.specs.Replies.{Named, NamedAll}
-use Rattle.parts.specs.Parts.{labelAt, armsLeft, oneArm, leftover, among, pick}
+use Rattle.jump.specs.Leaps.{oneArm}
+use Rattle.jump.proofs.Taking.{at-each, named-each}
+use Rattle.parts.specs.Parts.{labelAt, armsLeft, leftover, among, pick}
 use Rattle.parts.specs.declared.trimming.Arms.{Arms}
 use Rattle.parts.specs.declared.trimming.Arms.the-variants.{Both, First, Second, Neither}
 
@@ -102,33 +104,6 @@ module _ (labels : List ℕ) (times : List ℤ) (r : Rule) where
   pub arms-second : armsLeft labels times r ≡ Second → (labelAt labels (r .y) ≡ labelAt labels (r .z)) × (timeAt times (r .x) ≤ℤ timeAt times (r .y))
   unfolding Tells
   arms-second e = subst Tells e tells
-
--- a rule stored at the place after the others
-module _ (r : Rule) (xs ys zs : List ℕ) (ks : List ℤ) (at : ℕ) (c : Columns xs ys zs ks (at + 1)) where
-  stored-from : (from n : ℕ) → from + n ≡ at →
-      rulesFrom (set xs at (r .x)) (set ys at (r .y)) (set zs at (r .z)) (set ks at (r .k)) from (suc n) ≡ rulesFrom xs ys zs ks from n ++ (r ∷ [])
-  unfolding rulesFrom
-  stored-from from zero e =
-      let h : from ≡ at = omega arith in
-      rw (
-        h,
-        getD-set-same xs at (r .x) 0 (omega (arith, c .xlong)),
-        getD-set-same ys at (r .y) 0 (omega (arith, c .ylong)),
-        getD-set-same zs at (r .z) 0 (omega (arith, c .zlong)),
-        getD-set-same ks at (r .k) (pos 0) (omega (arith, c .klong)),
-      )
-  stored-from from (suc n) e =
-      let h : from ≡ at → ⊥ = λ q. omega arith in
-      rw (
-        getD-set-other xs at from (r .x) 0 h,
-        getD-set-other ys at from (r .y) 0 h,
-        getD-set-other zs at from (r .z) 0 h,
-        getD-set-other ks at from (r .k) (pos 0) h,
-        stored-from (from + 1) n (omega arith),
-      )
-
-  pub stored : rulesOf (set xs at (r .x)) (set ys at (r .y)) (set zs at (r .z)) (set ks at (r .k)) (at + 1) ≡ rulesOf xs ys zs ks at ++ (r ∷ [])
-  stored = let e : at + 1 ≡ suc at = omega arith in rw e (stored-from 0 at (omega arith))
 
 -- the rules of parts, by the label of the first rule's third job
 module _ (from to : ℕ) (labels : List ℕ) (times : List ℤ) (r : Rule) (rules : List Rule) where
@@ -223,10 +198,6 @@ each-both : (P : Rule → Type 0) (l m : List Rule) → Each P l → Each P m �
 each-both P [] m e d = d
 each-both P (a ∷ l) m e d = (e .0, each-both P l m (e .1) d)
 
-at-each : (P : Rule → Type 0) (rules : List Rule) → ((i : ℕ) → i < length rules → P (ruleAt rules i)) → Each P rules
-at-each P [] h = tt
-at-each P (r ∷ rules) h = (h 0 (omega arith), at-each P rules (λ i l. h (suc i) (omega arith)))
-
 -- what is left names no other jobs
 left-named : (a : Arms) (r : Rule) (n : ℕ) → Named r n → Each (λ s. Named s n) (leftover a r)
 unfolding leftover
@@ -247,119 +218,29 @@ picked-named from to labels times n (r ∷ rules) e =
     go false = tt
 
 pub part-jobs : (from to : ℕ) (labels : List ℕ) (times : List ℤ) (n : ℕ) (rules : List Rule) → NamedAll rules n n → NamedAll (pick from to labels times rules) n n
-part-jobs from to labels times n rules h =
-    let e = picked-named from to labels times n rules (at-each (λ r. Named r n) rules (h .in-near)) in
-    let at : (i : ℕ) → i < length (pick from to labels times rules) → Named (ruleAt (pick from to labels times rules) i) n =
-    λ i l. each-at (λ r. Named r n) (pick from to labels times rules) i l e in
-    record { in-near = at; in-far = at }
+part-jobs from to labels times n rules h = named-each n (pick from to labels times rules) (picked-named from to labels times n rules (at-each (λ r. Named r n) rules (h .in-near)))
 
--- the first i rules' part is in the first m of its columns
-pub record Filling (xs ys zs : List ℕ) (ks : List ℤ) (count : ℕ) (labels : List ℕ) (times : List ℤ) (part : ℕ) (pxs₀ pys₀ pzs₀ : List ℕ) (pks₀ : List ℤ) (pxs pys pzs : List ℕ) (pks : List ℤ) (m i : ℕ) : Type 0 where
-  pub low : i ≤ count
-  pub few : m ≤ i
-  pub xlong : length pxs ≡ length pxs₀
-  pub ylong : length pys ≡ length pys₀
-  pub zlong : length pzs ≡ length pzs₀
-  pub klong : length pks ≡ length pks₀
-  pub rest : pick part (part + 1) labels times (rulesOf xs ys zs ks count) ≡
-      rulesOf pxs pys pzs pks m ++ pick part (part + 1) labels times (rulesFrom xs ys zs ks i (count - i))
+-- of a rule the part takes what is left of it, or nothing
+module _ (part : ℕ) (labels : List ℕ) (times : List ℤ) (r : Rule) (rules : List Rule) where
+  pub part-skip : (labelAt labels (r .z) ≡ part → ⊥) → pick part (part + 1) labels times (r ∷ rules) ≡ pick part (part + 1) labels times rules
+  part-skip n = go (decLt (labelAt labels (r .z)) part)
+    where
+      go : Dec (labelAt labels (r .z) < part) → pick part (part + 1) labels times (r ∷ rules) ≡ pick part (part + 1) labels times rules
+      go (yes l) = pick-early part (part + 1) labels times r rules l
+      go (no l) = pick-late part (part + 1) labels times r rules (omega arith) (omega arith)
 
-module _ (xs ys zs : List ℕ) (ks : List ℤ) (count : ℕ) (labels : List ℕ) (times : List ℤ) (part : ℕ) (pxs pys pzs : List ℕ) (pks : List ℤ) where
-  pub filling-none : Filling xs ys zs ks count labels times part pxs pys pzs pks pxs pys pzs pks 0 0
-  unfolding rulesFrom
-  filling-none =
-      let e : count ≡ count - 0 = omega arith in
-      record {
-        low = omega arith;
-        few = omega arith;
-        xlong = refl;
-        ylong = refl;
-        zlong = refl;
-        klong = refl;
-        rest = ap (λ (n : ℕ). pick part (part + 1) labels times (rulesFrom xs ys zs ks 0 n)) e;
-      }
+  pub part-take : labelAt labels (r .z) ≡ part → {a : Arms} → armsLeft labels times r ≡ a → pick part (part + 1) labels times (r ∷ rules) ≡ leftover a r ++ pick part (part + 1) labels times rules
+  part-take l e = pick-in part (part + 1) labels times r rules (omega arith) (omega arith) ∙ ap (λ (b : Arms). leftover b r ++ pick part (part + 1) labels times rules) e
 
--- the columns of a part before and after a rule
-pub record Put (pxs pys pzs : List ℕ) (pks : List ℤ) (m : ℕ) (pxs′ pys′ pzs′ : List ℕ) (pks′ : List ℤ) (s : Rule) : Type 0 where
-  pub xlong : length pxs′ ≡ length pxs
-  pub ylong : length pys′ ≡ length pys
-  pub zlong : length pzs′ ≡ length pzs
-  pub klong : length pks′ ≡ length pks
-  pub holds : rulesOf pxs′ pys′ pzs′ pks′ (m + 1) ≡ rulesOf pxs pys pzs pks m ++ (s ∷ [])
+pub part-none : (part : ℕ) (labels : List ℕ) (times : List ℤ) → pick part (part + 1) labels times [] ≡ []
+unfolding pick
+part-none part labels times = refl
 
-module _ {xs ys zs : List ℕ} {ks : List ℤ} {count : ℕ} {labels : List ℕ} {times : List ℤ} {part : ℕ} {pxs₀ pys₀ pzs₀ : List ℕ} {pks₀ : List ℤ} {pxs pys pzs : List ℕ} {pks : List ℤ} {m i : ℕ}
-    (f : Filling xs ys zs ks count labels times part pxs₀ pys₀ pzs₀ pks₀ pxs pys pzs pks m i) where
-  -- the columns hold one more
-  pub filling-room : Columns pxs₀ pys₀ pzs₀ pks₀ count → i < count → Columns pxs pys pzs pks (m + 1)
-  filling-room c h =
-      record {
-        xlong = omega (arith, f .few, f .xlong, c .xlong);
-        ylong = omega (arith, f .few, f .ylong, c .ylong);
-        zlong = omega (arith, f .few, f .zlong, c .zlong);
-        klong = omega (arith, f .few, f .klong, c .klong);
-      }
+-- what is left of a rule is one or none
+pub one-neither : (r : Rule) → leftover Neither r ≡ []
+unfolding leftover
+one-neither r = refl
 
-  module _ (h : i < count) where
-    abbrev r : Rule
-    r = ruleOf xs ys zs ks i
-
-    abbrev Rest : ℕ → List Rule
-    Rest at = pick part (part + 1) labels times (rulesFrom xs ys zs ks at (count - at))
-
-    at-rule : Rest i ≡ pick part (part + 1) labels times (r ∷ rulesFrom xs ys zs ks (i + 1) (count - (i + 1)))
-    at-rule = ap (λ (l : List Rule). pick part (part + 1) labels times l) (rows-next xs ys zs ks i count h)
-
-    -- nothing of it
-    pub filling-skip : Rest i ≡ Rest (i + 1) → Filling xs ys zs ks count labels times part pxs₀ pys₀ pzs₀ pks₀ pxs pys pzs pks m (i + 1)
-    filling-skip e =
-        record {
-          low = omega arith;
-          few = omega (arith, f .few);
-          xlong = f .xlong;
-          ylong = f .ylong;
-          zlong = f .zlong;
-          klong = f .klong;
-          rest = f .rest ∙ ap (λ (l : List Rule). rulesOf pxs pys pzs pks m ++ l) e;
-        }
-
-    pub filling-other : (labelAt labels (r .z) ≡ part → ⊥) → Filling xs ys zs ks count labels times part pxs₀ pys₀ pzs₀ pks₀ pxs pys pzs pks m (i + 1)
-    filling-other n = filling-skip (at-rule ∙ go (decLt (labelAt labels (r .z)) part))
-      where
-        go : Dec (labelAt labels (r .z) < part) → pick part (part + 1) labels times (r ∷ rulesFrom xs ys zs ks (i + 1) (count - (i + 1))) ≡ Rest (i + 1)
-        go (yes l) = pick-early part (part + 1) labels times r _ l
-        go (no l) = pick-late part (part + 1) labels times r _ (omega arith) (omega arith)
-
-    here-too : labelAt labels (r .z) ≡ part → {a : Arms} → armsLeft labels times r ≡ a → Rest i ≡ leftover a r ++ Rest (i + 1)
-    here-too l e =
-        at-rule ∙ pick-in part (part + 1) labels times r _ (omega arith) (omega arith) ∙ ap (λ (b : Arms). leftover b r ++ Rest (i + 1)) e
-
-    pub filling-neither : labelAt labels (r .z) ≡ part → armsLeft labels times r ≡ Neither → Filling xs ys zs ks count labels times part pxs₀ pys₀ pzs₀ pks₀ pxs pys pzs pks m (i + 1)
-    unfolding leftover
-    filling-neither l e = filling-skip (here-too l e)
-
-    -- a rule of it
-    pub filling-put : labelAt labels (r .z) ≡ part → {a : Arms} → armsLeft labels times r ≡ a → {s : Rule} → leftover a r ≡ s ∷ [] → {pxs′ pys′ pzs′ : List ℕ} {pks′ : List ℤ} →
-        Put pxs pys pzs pks m pxs′ pys′ pzs′ pks′ s → Filling xs ys zs ks count labels times part pxs₀ pys₀ pzs₀ pks₀ pxs′ pys′ pzs′ pks′ (m + 1) (i + 1)
-    filling-put l e {s = s} o p =
-        record {
-          low = omega arith;
-          few = omega (arith, f .few);
-          xlong = p .xlong ∙ f .xlong;
-          ylong = p .ylong ∙ f .ylong;
-          zlong = p .zlong ∙ f .zlong;
-          klong = p .klong ∙ f .klong;
-          rest = f .rest ∙ ap (λ (l : List Rule). rulesOf pxs pys pzs pks m ++ l) (here-too l e ∙ ap (λ (l : List Rule). l ++ Rest (i + 1)) o) ∙
-              sym (append-assoc (rulesOf pxs pys pzs pks m) (s ∷ []) (Rest (i + 1))) ∙ ap (λ (l : List Rule). l ++ Rest (i + 1)) (sym (p .holds));
-        }
-
-  pub filling-all : count ≤ i → rulesOf pxs pys pzs pks m ≡ pick part (part + 1) labels times (rulesOf xs ys zs ks count)
-  unfolding pick
-  filling-all h =
-      sym
-      (f .rest ∙ ap (λ (l : List Rule). rulesOf pxs pys pzs pks m ++ pick part (part + 1) labels times l) (rows-end xs ys zs ks i count h) ∙
-      append-nil (rulesOf pxs pys pzs pks m))
-
--- what is left of a rule is one
 pub one-both : (r : Rule) → leftover Both r ≡ r ∷ []
 unfolding leftover
 one-both r = refl

@@ -12,6 +12,7 @@ use Rattle.maxatom.specs.Rule.{timeAt}
 use Rattle.maxatom.specs.declared.Rule.{Rule}
 use Rattle.maxatom.specs.Clauses.{clausesOf}
 use Rattle.maxatom.specs.Jumps.{Passing, Traced, Along}
+use Rattle.jump.specs.Leaps.{oneArm}
 use Rattle.parts.specs.declared.trimming.Arms.{Arms}
 use Rattle.parts.specs.declared.trimming.Arms.the-variants.{Both, First, Second, Neither}
 
@@ -27,10 +28,6 @@ armsLeft labels times r =
     cond near
     (cond far Both (cond (leZ (timeAt times (r .y)) (timeAt times (r .x))) First Neither))
     (cond far (cond (leZ (timeAt times (r .x)) (timeAt times (r .y))) Second Neither) Neither)
-
--- the rule with one of its arms for both
-abbrev pub oneArm : ℕ → Rule → Rule
-oneArm job r = record { x = job; y = job; z = r .z; k = r .k }
 
 -- what is left, as a rule or none
 unfoldable pub leftover : Arms → Rule → List Rule

@@ -6,7 +6,9 @@ ghost use lib.ListN.{length};
 ghost use lib.IntN.{ℤ};
 ghost use Rattle.table.specs.Columns.{rulesOf, Columns};
 ghost use Rattle.solver.specs.Replies.{Named, NamedAll};
-ghost use Rattle.parts.specs.Parts.{armsLeft, oneArm, pick};
+ghost use Rattle.parts.specs.Parts.{armsLeft, pick};
+use jump::one_arm;
+use jump::put;
 use maxatom::Rule;
 use table::rule_at;
 
@@ -42,30 +44,6 @@ pub fn arms_left(r: Rule, labels: &[u16], times: &[i32]) -> Arms
         return Arms::Neither;
     }
     Arms::Neither
-}
-
-// A rule with one of its arms for both.
-fn one_arm(r: Rule, job: u16) -> Rule
-    ensures { λ s. ⌜ s ≡ oneArm job r ⌝ }
-{
-    Rule {
-        x: job,
-        y: job,
-        z: r.z,
-        k: r.k,
-    }
-}
-
-// Puts a rule at a place of the columns.
-fn put(r: Rule, at: usize, xs: &mut [u16], ys: &mut [u16], zs: &mut [u16], ks: &mut [i32])
-    requires { ⌜ Columns (now xs) (now ys) (now zs) (now ks) (at + 1) ⌝ }
-    ensures { λ u. ⌜ rulesOf (now (xs .exit)) (now (ys .exit)) (now (zs .exit)) (now (ks .exit)) (at + 1) ≡ rulesOf (now (xs .entry)) (now (ys .entry)) (now (zs .entry)) (now (ks .entry)) at ++ (r ∷ []) ⌝ }
-{
-    let k = r.k;
-    xs[at] = r.x;
-    ys[at] = r.y;
-    zs[at] = r.z;
-    ks[at] = k;
 }
 
 // The rules of a part, in columns of their own: how many.

@@ -4,18 +4,20 @@ use Prim.Native.Nat.{_-_, _+_, _<_, _^_}
 use native.Mathlib.Omega.{arith}
 use denote.Ref.{now}
 use lib.ListN.{length, getD}
+use mathlib.Core.List.{List, _∷_, _++_}
 use Rattle.maxatom.specs.declared.Rule.{Rule}
 use Rattle.table.specs.Columns.{ruleOf}
 use Rattle.solver.specs.Replies.{Named}
 use Rattle.jump.proofs.Jumping.{named-at}
-use Rattle.parts.specs.Parts.{labelAt, armsLeft}
+use Rattle.jump.proofs.Taking.{Filling, filling-none, filling-room, filling-skip, filling-put, filling-all}
+use Rattle.parts.specs.Parts.{labelAt, armsLeft, leftover, pick}
 use Rattle.parts.specs.declared.trimming.Arms.{Arms}
-use Rattle.parts.proofs.Leftovers.{Filling, filling-none, filling-room, filling-other, filling-neither, filling-put, filling-all, one-both, one-first, one-second, in-range}
+use Rattle.parts.proofs.Leftovers.{part-skip, part-take, part-none, one-neither, one-both, one-first, one-second, in-range}
 use Rattle.parts.proofs.trimming.fill.Statement.{statement}
 use Rattle.parts.proofs.trimming.fill.Tie as tie
 
 abbrev Inv-loop : tie.InvT-loop
-Inv-loop xs ys zs ks count labels times part pxs₀ pys₀ pzs₀ pks₀ m₀ i₀ pxs pys pzs pks m i = Filling xs ys zs ks count labels times part pxs₀ pys₀ pzs₀ pks₀ pxs pys pzs pks m i
+Inv-loop xs ys zs ks count labels times part pxs₀ pys₀ pzs₀ pks₀ m₀ i₀ pxs pys pzs pks m i = Filling (pick part (part + 1) labels times) xs ys zs ks count pxs₀ pys₀ pzs₀ pks₀ pxs pys pzs pks m i
 
 abbrev μ-loop : tie.MeasureT-loop
 μ-loop xs ys zs ks count labels times part pxs₀ pys₀ pzs₀ pks₀ m₀ i₀ pxs pys pzs pks m i = count - i
@@ -57,12 +59,21 @@ module _ (c : tie.After-arms-left Inv-loop μ-loop) where
   told : {a : Arms} → c .arms-left .result ≡ a → armsLeft (now (start (at of) .args .labels)) (now (start (at of) .args .times)) (rule (at of)) ≡ a
   told e = sym (rw (read-is of) at (c .arms-left .ensures)) ∙ e
 
+  -- and so of the rules from it on
+  taken : {a : Arms} → armsLeft (now (start (at of) .args .labels)) (now (start (at of) .args .times)) (rule (at of)) ≡ a → (rules : List Rule) {left : List Rule} → leftover a (rule (at of)) ≡ left →
+      let s = start (at of) .args in
+      pick (s .part) (s .part + 1) (now (s .labels)) (now (s .times)) (rule (at of) ∷ rules) ≡ left ++ pick (s .part) (s .part + 1) (now (s .labels)) (now (s .times)) rules
+  taken e rules o =
+      let s = start (at of) .args in
+      part-take (s .part) (now (s .labels)) (now (s .times)) (rule (at of)) rules in-part e ∙
+      ap (λ (l : List Rule). l ++ pick (s .part) (s .part + 1) (now (s .labels)) (now (s .times)) rules) o
+
 loop-again : tie.Need-loop-again Inv-loop μ-loop
 loop-again c =
     let p = c .before .before .before .before .before .before .before in
     let e = p .before .before .before .before .before in
     let k = e .before .before in
-    filling-put (at (of k) .loop .inv) (has (of k)) (in-part k) (told k (e .enum-told .given .1)) (one-both (rule (at (of k))))
+    filling-put (at (of k) .loop .inv) (has (of k)) (taken k (told k (e .enum-told .given .1)) _ (one-both (rule (at (of k)))))
     (record {
       xlong = p .put .kept .1 .1 .0;
       ylong = p .put .kept .1 .1 .1 .0;
@@ -77,7 +88,7 @@ loop-again-2 c =
     let o = p .before .before .before .before .before in
     let e = o .before in
     let k = e .before .before in
-    filling-put (at (of k) .loop .inv) (has (of k)) (in-part k) (told k (e .enum-told2 .given .1)) (one-first (rule (at (of k))))
+    filling-put (at (of k) .loop .inv) (has (of k)) (taken k (told k (e .enum-told2 .given .1)) _ (one-first (rule (at (of k)))))
     (record {
       xlong = p .put2 .kept .1 .1 .0;
       ylong = p .put2 .kept .1 .1 .1 .0;
@@ -92,7 +103,7 @@ loop-again-3 c =
     let o = p .before .before .before .before .before in
     let e = o .before in
     let k = e .before .before in
-    filling-put (at (of k) .loop .inv) (has (of k)) (in-part k) (told k (e .enum-told3 .given .1)) (one-second (rule (at (of k))))
+    filling-put (at (of k) .loop .inv) (has (of k)) (taken k (told k (e .enum-told3 .given .1)) _ (one-second (rule (at (of k)))))
     (record {
       xlong = p .put3 .kept .1 .1 .0;
       ylong = p .put3 .kept .1 .1 .1 .0;
@@ -111,7 +122,7 @@ fill-spec =
     (tie.spec
     Inv-loop
     μ-loop
-    (λ c. filling-none _ _ _ _ _ _ _ _ _ _ _ _)
+    (λ c. filling-none _ _ _ _ _ _ _ _ _ _)
     (λ c κs. search needs)
     (λ c. search needs)
     (λ c. search needs)
@@ -140,14 +151,15 @@ fill-spec =
     (λ c. search needs)
     (λ c. search needs)
     (λ c. search needs)
-    (λ c. let k = c .before .before in filling-neither (at (of k) .loop .inv) (has (of k)) (in-part k) (told k (c .enum-told4 .given .1)))
+    (λ c. let k = c .before .before in filling-skip (at (of k) .loop .inv) (has (of k)) (taken k (told k (c .enum-told4 .given .1)) _ (one-neither (rule (at (of k))))))
     (λ c. search needs)
     (λ c. search needs)
-    (λ c. let k = c .before in filling-other (at k .loop .inv) (has k) (λ e. c .if1 .left (sym (label-is k) ∙ e)))
+    (λ c. let k = c .before in let a = start (at k) .args in
+    filling-skip (at k .loop .inv) (has k) (part-skip (a .part) (now (a .labels)) (now (a .times)) (rule (at k)) _ (λ e. c .if1 .left (sym (label-is k) ∙ e))))
     (λ c. c .before .loop .inv .xlong)
     (λ c. c .before .loop .inv .ylong)
     (λ c. c .before .loop .inv .zlong)
     (λ c. c .before .loop .inv .klong)
     (λ c. let v = c .before .loop .inv in
     let h = c .loop-test .left in
-    (omega (arith, v .few, v .low), filling-all v (omega arith))))
+    (omega (arith, v .few, v .low), filling-all v (omega arith) (part-none _ _ _))))

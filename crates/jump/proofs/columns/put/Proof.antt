@@ -1,9 +1,9 @@
 use borrow.Author.Needs.{needs}
 use denote.Ref.{now}
 use Rattle.table.proofs.Signed.{told}
-use Rattle.parts.proofs.Leftovers.{stored}
-use Rattle.parts.proofs.trimming.put.Statement.{statement}
-use Rattle.parts.proofs.trimming.put.Tie as tie
+use Rattle.jump.proofs.Taking.{stored}
+use Rattle.jump.proofs.columns.put.Statement.{statement}
+use Rattle.jump.proofs.columns.put.Tie as tie
 
 returns : tie.Need-returns
 returns c =
