@@ -131,6 +131,13 @@ static void rule(Book *b, int x, int y, int k, int z) {
     b->count++;
 }
 
+static void swap(Book *b, size_t i, size_t j) {
+    uint16_t x = b->x[i], y = b->y[i], z = b->z[i];
+    int32_t k = b->k[i];
+    b->x[i] = b->x[j], b->y[i] = b->y[j], b->z[i] = b->z[j], b->k[i] = b->k[j];
+    b->x[j] = x, b->y[j] = y, b->z[j] = z, b->k[j] = k;
+}
+
 static uint64_t seed;
 
 // splitmix64, below m
@@ -201,6 +208,33 @@ static void many(Book *b, int o, int rings, int joined) {
         len = i + 1 < rings ? JOBS / rings - rings + 2 * i + 1 : JOBS - at;
         ring(b, at, len, o, REVERSE, joined && i ? 0 : -1, 0);
     }
+}
+
+// The same apart, and idle rules whose second arms lie in other rings.
+static void across(Book *b, int o, int rings, int count) {
+    many(b, o, rings, 0);
+    for (int i = 0; i < count; i++)
+        rule(b, i % JOBS, below(JOBS), o, i % JOBS);
+}
+
+// Rings of random lengths and offsets, each with its own drop in a round, in random order; some rules between them, and idle ones
+// across.
+static void random_rings(Book *b, int o, int rings, int count) {
+    for (int i = 0; i < rings; i++) {
+        int at = b->n, len = 12 + below(40), sum = 0;
+        for (int r = 0; r < len; r++) {
+            int x = at + (r + len - 1) % len, k = r + 1 < len ? below(o + 1) - (sum > 0 ? o : 0) : -1 - below(60) - sum;
+            rule(b, x, below(20) ? x : below(at + len), k, at + r);
+            sum += k;
+        }
+        b->n += len;
+    }
+    for (size_t i = 0; i < b->count; i++)
+        swap(b, i, i + below(b->count - i));
+    for (int i = 0; i < rings; i++)
+        rule(b, below(b->n), below(b->n), below(o), below(b->n));
+    while (b->count < (size_t)count)
+        rule(b, b->count % b->n, below(b->n), o, b->count % b->n);
 }
 
 // Rings of odd lengths in reverse order that all fall a minute a pass, each in rounds of its own, and a job that follows
@@ -352,6 +386,12 @@ static const Family families[] = {
     {"eight rings of 25 to 39, apart", many, OFFSET, 8, 0, 30, 0},
     {"rings of 83, 85 and 88, joined", many, OFFSET, 3, 1, 30, 0},
     {"five rings of 47 to 56, joined", many, OFFSET, 5, 1, 30, 0},
+    {"rings of 83, 85 and 88, and 768 idle rules across", across, OFFSET, 3, 768, 3, 14},
+    {"five rings of 47 to 56, and 768 idle rules across", across, OFFSET, 5, 768, 3, 15},
+    {"three random rings, 600 rules", random_rings, OFFSET, 3, 600, 20, 16},
+    {"four random rings, 600 rules", random_rings, OFFSET, 4, 600, 20, 17},
+    {"five random rings, 600 rules", random_rings, OFFSET, 5, 600, 20, 18},
+    {"five random rings, 1,024 rules", random_rings, OFFSET, 5, 1024, 20, 20},
     {"rings of 83, 85 and 87 at one rate, and a job below", followed, OFFSET, 3, 0, 0, 0},
     {"ring of 2, offsets of 1 minute", one_ring, 1, 2, FORWARD, 0, 0},
     {"ring of 2", one_ring, OFFSET, 2, FORWARD, 0, 0},

@@ -32,9 +32,9 @@ struct Found {
     most: u64,
 }
 
-// Passes enough to be worth it, after so many without a jump.
+// Passes enough to be worth the try, after so many without a jump.
 fn enough(passes: u64, wait: usize) -> bool {
-    (wait as u64) <= passes / 4
+    1024 + (wait as u64) / 16 <= passes
 }
 
 // The passes left after a try with so many steps.

@@ -10,6 +10,8 @@ use lib.IntN.{ℤ, pos}
 use lib.Signed.{_≤ℤ_, ltZ}
 use lib.Dec.{eqb}
 use borrow.Author.Tests.{eq-eqb, ne-eqb}
+use mir.Syntax.{w32}
+use mir.Val.{SFits}
 use Rattle.maxatom.specs.Rule.{timeAt, leftSide, satisfied, minutesOff}
 use Rattle.maxatom.specs.Book.{Accepted, total, floor}
 use Rattle.maxatom.specs.declared.Rule.{Rule}
@@ -38,7 +40,7 @@ use Rattle.derivation.specs.Calls.{Answer, answerOf, runReply, runTimes}
 use Rattle.derivation.proofs.Checks.{accepting, passed, refused-same, answered-same, times-accepted}
 use Rattle.derivation.proofs.Exact.{demand-2, run-facts}
 use Rattle.solver.proofs.Laws.{named, in-book}
-use Rattle.solver.proofs.Steps.{total-bound, lowerable}
+use Rattle.solver.proofs.Steps.{total-bound, left-fits, lowerable}
 
 module _ {jobs : ℕ} {rules : List Rule} {times : List ℤ} {steps : ℕ} (p : Running jobs rules times steps) where
   -- the state that the hand steps leave is a derivation's
@@ -106,6 +108,10 @@ module _ {xs ys zs : List ℕ} {ks : List ℤ} {count from : ℕ} {b₀ : List �
   pub going-kept : i < count → satisfied rule b ≡ true → Going xs ys zs ks count from b₀ s₀ b s (i + 1)
   unfolding pass
   going-kept h e = record { low = omega arith; running = g .running; rest = head h ∙ cond-yes _ _ e }
+
+  -- the left side of the rule is a number of 32 bits
+  pub fits-here : i < count → SFits w32 (leftSide rule b)
+  fits-here h = left-fits (g .running .accepted) b (early (g .running)) (g .running .above) rule (in-book xs ys zs ks count i (g .running .accepted) h)
 
   module _ (h : i < count) (broken : satisfied rule b ≡ false) where
     pub lowerable-here : Lowerable rule b

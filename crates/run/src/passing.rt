@@ -4,15 +4,20 @@ ghost use mathlib.Core.Bool.{Bool, true, false};
 ghost use Prim.Native.Nat.{ℕ, _+_, _*_, _<_, _≤_, min};
 ghost use lib.ListN.{length};
 ghost use lib.IntN.{ℤ};
+ghost use mir.Syntax.{w32};
+ghost use mir.Val.{SFits};
 ghost use Rattle.maxatom.specs.Book.{floor};
+ghost use Rattle.maxatom.specs.Rule.{leftSide, satisfied};
 ghost use Rattle.derivation.specs.Run.{pass};
 ghost use Rattle.table.specs.Columns.{rulesOf, Columns};
+ghost use Rattle.solver.specs.Replies.{Named};
 ghost use Rattle.run.specs.Blocks.{Reads, Settled, Tracked};
 ghost use Rattle.run.specs.Passing.{runOf, Running, Parted};
 use crate::blocks::is_marked;
 use crate::blocks::unmarked;
 use jump::weighed;
-use solver::is_satisfied;
+use maxatom::Rule;
+use solver::larger;
 use solver::lower;
 use table::rule_at;
 
@@ -25,6 +30,19 @@ pub struct PassOut {
     pub marked: u64,
     pub last: usize,
     pub minutes: u64,
+}
+
+// A rule is satisfied, where its left side is a number of 32 bits.
+fn is_kept(r: Rule, times: &[i32]) -> bool
+    requires { ⌜ Named r (length (now times)) ⌝ }
+    requires { ⌜ SFits w32 (leftSide r (now times)) ⌝ }
+    ensures { λ b. ⌜ b ≡ satisfied r (now (times .entry)) ⌝ }
+{
+    let x = r.x as usize;
+    let y = r.y as usize;
+    let z = r.z as usize;
+    let left = larger(times[x], times[y]) + r.k;
+    times[z] <= left
 }
 
 // The rules of a pass from one to before another: a step on each violated one, and an end at once when a time falls below the floor.
@@ -61,7 +79,7 @@ fn part(
     let mut i = from;
     while i < to {
         let r = rule_at(xs, ys, zs, ks, i);
-        if is_satisfied(r, times) {
+        if is_kept(r, times) {
             i += 1;
         } else {
             let off = lower(r, times);

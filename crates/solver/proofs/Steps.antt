@@ -17,7 +17,7 @@ use Rattle.maxatom.specs.Rule.{timeAt, maxZ, leftSide, satisfied, eqZ, minutesO
 use Rattle.maxatom.specs.Book.{Each, InBook, Accepted, NotAfterZero, total, floor, minus}
 use Rattle.maxatom.specs.declared.Rule.{Rule}
 use Rattle.maxatom.proofs.Choose.{clash}
-use Rattle.maxatom.proofs.Integers.{up, dn, le-read, le-make, lt-read, le-true, le-false, eq-true, add-parts, neg-parts, minus-parts, abs-parts, off-parts, up-zero, max-left}
+use Rattle.maxatom.proofs.Integers.{up, dn, le-read, le-make, lt-read, le-true, le-false, eq-true, add-parts, neg-parts, minus-parts, abs-parts, off-parts, up-zero, max-left, max-under, add-bounds}
 use Rattle.maxatom.proofs.Lists.{each-map, each-time}
 use Rattle.derivation.specs.declared.Tally.{Tally}
 use Rattle.derivation.specs.Step.{State, inRange, belowFloor, sumZ, fits, stepOn, Called, stepChecks, stepCall}
@@ -85,42 +85,45 @@ tally-room k tally times h n r f =
       omega (arith, ap up e, neg-parts (sumZ times), abs-parts (sumZ times), range-sum k times h (range-each k times r)),
     )
 
+-- above the floor, a left side is no lower than an offset below it, and no later than an offset after zero
 module _ {jobs : ℕ} {rules : List Rule} (a : Accepted jobs rules) (times : List ℤ) (early : (job : ℕ) → timeAt times job ≤ℤ pos 0)
-    (above : belowFloor (floor rules) times ≡ false) (r : Rule) (in-book : InBook jobs r) (broken : satisfied r times ≡ false) where
-  lower : leftSide r times <ℤ timeAt times (r .z)
-  unfolding satisfied
-  lower = le-false _ _ broken
-
-  below-zero : up (leftSide r times) ≡ 0
-  below-zero = up-zero (le-make {a = leftSide r times} {b = pos 0} (omega (arith, lt-read lower, le-read (early (r .z)))))
-
-  -- the left side is no lower than an offset below the floor
-  near : dn (leftSide r times) ≤ 20664000
+    (above : belowFloor (floor rules) times ≡ false) (r : Rule) (in-book : InBook jobs r) where
+  left-bound : (up (leftSide r times) ≤ 20160) × (dn (leftSide r times) ≤ 20664000)
   unfolding leftSide
-  near =
-      omega (
-        arith,
-        le-read (max-left (timeAt times (r .x)) (timeAt times (r .y))),
-        add-parts (maxZ (timeAt times (r .x)) (timeAt times (r .y))) (r .k),
-        le-read (test-high (floor rules) times (le-make (omega (arith, minus-parts (total rules)))) above (r .x)),
-        minus-parts (total rules),
-        total-bound a,
-        abs-parts (r .k),
-        in-book .offset,
-        up-zero (early (r .x)),
-        below-zero,
+  left-bound =
+      let x = timeAt times (r .x) in
+      let y = timeAt times (r .y) in
+      let none = up-zero (max-under x y (pos 0) (early (r .x)) (early (r .y))) in
+      let most = add-bounds (maxZ x y) (r .k) in (
+        omega (arith, abs-parts (r .k), in-book .offset, none, most .0),
+        omega (
+          arith,
+          abs-parts (r .k),
+          in-book .offset,
+          none,
+          most .1,
+          le-read (max-left x y),
+          le-read (test-high (floor rules) times (le-make (omega (arith, minus-parts (total rules)))) above (r .x)),
+          minus-parts (total rules),
+          total-bound a,
+          up-zero (early (r .x)),
+        ),
       )
 
-  pub lowerable : Lowerable r times
-  lowerable =
-      record {
-        fits = fits-make w32 (omega (arith, below-zero)) (omega (arith, near));
-        below = lower;
-      }
+  pub left-fits : SFits w32 (leftSide r times)
+  left-fits = fits-make w32 (omega (arith, left-bound .0)) (omega (arith, left-bound .1))
 
-  pub off-bound : minutesOff (timeAt times (r .z)) (leftSide r times) ≤ 20664000
-  off-bound =
-      omega (arith, off-parts (timeAt times (r .z)) (leftSide r times) (le-make (omega (arith, lt-read lower))), near, below-zero, up-zero (early (r .z)))
+  module _ (broken : satisfied r times ≡ false) where
+    lower : leftSide r times <ℤ timeAt times (r .z)
+    unfolding satisfied
+    lower = le-false _ _ broken
+
+    pub lowerable : Lowerable r times
+    lowerable = record { fits = left-fits; below = lower }
+
+    pub off-bound : minutesOff (timeAt times (r .z)) (leftSide r times) ≤ 20664000
+    off-bound =
+        omega (arith, off-parts (timeAt times (r .z)) (leftSide r times) (le-make (omega (arith, lt-read lower))), left-bound .1, lt-read lower, up-zero (early (r .z)))
 
 -- a hand step on the rule it names, over columns
 module _ (xs ys zs : List ℕ) (ks : List ℤ) (count : ℕ) (state : State) (number : ℕ) where

@@ -10,6 +10,7 @@ pub use rule::first_violated;
 pub use rule::is_equality;
 pub use rule::is_satisfied;
 pub use rule::is_tight;
+pub use rule::larger;
 pub use rule::left_side;
 pub use rule::plus;
 pub use stepping::StepOut;

@@ -15,7 +15,7 @@ use table::Checked;
 use table::check_times;
 use table::rule_at;
 
-fn larger(a: i32, b: i32) -> i32
+pub fn larger(a: i32, b: i32) -> i32
     ensures { λ r. ⌜ r ≡ maxZ a b ⌝ }
 {
     if a < b { b } else { a }

@@ -20,7 +20,7 @@ use Rattle.table.specs.Columns.{ruleOf, rulesOf}
 use Rattle.solver.specs.Replies.{Named}
 use Rattle.run.specs.Blocks.{Reads}
 use Rattle.solver.proofs.Laws.{named}
-use Rattle.run.proofs.Runs.{size-of, few-fit, lowerable-here}
+use Rattle.run.proofs.Runs.{size-of, few-fit, fits-here, lowerable-here}
 use Rattle.run.proofs.Parts.{Parting, parting-none, parting-kept, parting-low, parting-unnoted, parting-word, parting-fell, parting-all, parting-settled}
 use Rattle.run.proofs.passing.part.Statement.{statement}
 use Rattle.run.proofs.passing.part.Tie as tie
@@ -45,10 +45,10 @@ names : (l : tie.At-loop Inv-loop μ-loop) → l .loop .i < start l .args .to �
 names l h = rw (size-of (l .loop .inv .going .running)) (named _ _ _ _ _ _ (l .loop .inv .going .running .accepted) (omega (arith, within l)))
 
 -- the test is whether rule i is satisfied
-kept-is : (c : tie.After-is-satisfied Inv-loop μ-loop) →
+kept-is : (c : tie.After-is-kept Inv-loop μ-loop) →
     let l = c .before .before .before .before in
-    c .is-satisfied .result ≡ satisfied (rule l) (l .loop .times)
-kept-is c = rw (c .before .before .rule-at .ensures) at (c .is-satisfied .ensures)
+    c .is-kept .result ≡ satisfied (rule l) (l .loop .times)
+kept-is c = rw (c .before .before .rule-at .ensures) at (c .is-kept .ensures)
 
 -- what is known where the rule is violated
 module _ (c : tie.Else1 Inv-loop μ-loop) where
@@ -103,7 +103,9 @@ part-spec =
     let p = s .pre in
     parting-none _ _ _ _ _ _ _ _ (now (s .args .times)) _ _ (p .1 .0 .0) (p .1 .0 .1) (p .1 .1 .0))
     (λ c κs. let l = c .before in omega (arith, start l .pre .0, within l, c .loop-test .taken))
-    (λ c κs. let l = c .before .before .before in rw (c .before .rule-at .ensures) (names l (omega arith)))
+    (λ c κs. let l = c .before .before .before in
+    let h = c .before .before .loop-test .taken in
+    rw (c .before .rule-at .ensures) (names l h, fits-here (l .loop .inv .going) (omega (arith, h, within l))))
     (λ c. search needs)
     (λ c. search needs)
     (λ c. let l = c .before .before .before .before .before in parting-kept (l .loop .inv) (within l) (c .before .before .before .before .loop-test .taken) (sym (kept-is (c .before)) ∙ c .if1 .taken))
