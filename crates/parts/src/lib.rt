@@ -17,6 +17,7 @@ use crate::guessing::longest;
 use crate::guessing::measure;
 use crate::guessing::passes_left;
 use jump::copy;
+use jump::take_proper;
 use jump::watch;
 
 // How the parts stand: the steps taken by them, the passes since the last try, and how many to wait for the next.
@@ -378,6 +379,57 @@ fn apart(
     )
 }
 
+// The same for rules of which the tautologies are left out first, since no test is to fail for them.
+fn apart_proper(
+    xs: &[u16],
+    ys: &[u16],
+    zs: &[u16],
+    ks: &[i32],
+    count: usize,
+    f: i32,
+    wait: usize,
+    was: &[i32],
+    pxs: &mut [u16],
+    pys: &mut [u16],
+    pzs: &mut [u16],
+    pks: &mut [i32],
+    labels: &mut [u16],
+    periods: &mut [u32],
+    falls: &mut [u32],
+    drops: &mut [u32],
+    near: &mut [i32],
+    far: &mut [i32],
+    times: &mut [i32],
+) -> u64
+    requires { ⌜ Columns (now xs) (now ys) (now zs) (now ks) count ⌝ }
+    requires { ⌜ NamedAll (rulesOf (now xs) (now ys) (now zs) (now ks) count) (length (now times)) (length (now times)) ⌝ }
+    requires { ⌜ (count ≤ 1024) × (length (now times) ≤ 256) ⌝ }
+    requires { ⌜ (length (now was) ≡ length (now times)) × (length (now labels) ≡ length (now times)) ⌝ }
+    requires { ⌜ (length (now periods) ≡ length (now times)) × (length (now falls) ≡ length (now times)) ⌝ }
+    requires { ⌜ Columns (now pxs) (now pys) (now pzs) (now pks) count ⌝ }
+    requires { ⌜ Sized (length (now times)) (now drops) (now near) (now far) ⌝ }
+    ensures { λ r. ⌜ Passed (rulesOf (now (xs .entry)) (now (ys .entry)) (now (zs .entry)) (now (ks .entry)) count) f (now (times .entry)) (now (times .exit)) r ⌝ }
+{
+    let m = take_proper(xs, ys, zs, ks, count, pxs, pys, pzs, pks);
+    apart(
+        pxs,
+        pys,
+        pzs,
+        pks,
+        m,
+        f,
+        wait,
+        was,
+        labels,
+        periods,
+        falls,
+        drops,
+        near,
+        far,
+        times,
+    )
+}
+
 // The same, with the room that it takes.
 fn apart_in(
     xs: &[u16],
@@ -404,7 +456,11 @@ fn apart_in(
     let mut labels: [u16; 256] = [0; 256];
     let mut periods: [u32; 256] = [0; 256];
     let mut falls: [u32; 256] = [0; 256];
-    apart(
+    let mut pxs: [u16; 1024] = [0; 1024];
+    let mut pys: [u16; 1024] = [0; 1024];
+    let mut pzs: [u16; 1024] = [0; 1024];
+    let mut pks: [i32; 1024] = [0; 1024];
+    apart_proper(
         xs,
         ys,
         zs,
@@ -413,6 +469,10 @@ fn apart_in(
         f,
         wait,
         was,
+        &mut pxs[..],
+        &mut pys[..],
+        &mut pzs[..],
+        &mut pks[..],
         &mut labels[..n],
         &mut periods[..n],
         &mut falls[..n],
