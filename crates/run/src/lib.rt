@@ -245,7 +245,8 @@ fn stays_plain(i: usize, count: usize) -> bool
     (i - 16) * (count + 1) < 8192
 }
 
-// The run of an accepted book: plain passes, and for a long run then the watched ones.
+// The run of an accepted book: plain passes, and for a long run then the watched ones. These get the columns by names of their own, which
+// a short run then need not lay out.
 fn solve_checked(
     xs: &[u16],
     ys: &[u16],
@@ -287,12 +288,20 @@ fn solve_checked(
             return Solved::Plan(steps);
         }
         if pays(i, steps - s, count) {
-            return finish_long(xs, ys, zs, ks, count, f, steps, times);
+            let x = xs;
+            let y = ys;
+            let z = zs;
+            let k = ks;
+            return finish_long(x, y, z, k, count, f, steps, times);
         }
         s = steps;
         i += 1;
     }
-    finish_long(xs, ys, zs, ks, count, f, s, times)
+    let x = xs;
+    let y = ys;
+    let z = zs;
+    let k = ks;
+    finish_long(x, y, z, k, count, f, s, times)
 }
 
 // The bench run: the plan, or none, on any arguments. The lent times hold the assignment as it stood at the end.
