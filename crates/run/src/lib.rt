@@ -3,7 +3,7 @@ mod passing;
 
 ghost use mathlib.Core.Path.{_≡_};
 ghost use mathlib.Core.Bool.{Bool, true};
-ghost use Prim.Native.Nat.{ℕ, _<_, min};
+ghost use Prim.Native.Nat.{ℕ, _<_, _≤_, min};
 ghost use lib.ListN.{length};
 ghost use lib.IntN.{ℤ};
 ghost use Rattle.maxatom.specs.Book.{Accepted, floor};
@@ -231,16 +231,22 @@ fn pays(passes: usize, steps: u64, count: usize) -> bool {
     }
 }
 
-// How many plain passes to make before the watching, which takes some room, pays.
-fn plain_passes(count: usize) -> usize {
-    if count < 1024 {
-        8192 / (count + 1) + 16
-    } else {
-        16
+// Plain passes go on: some first, and more where the table is small, until the watching, which takes some room, pays.
+fn stays_plain(i: usize, count: usize) -> bool
+    requires { ⌜ count ≤ 1024 ⌝ }
+    ensures { λ r. ⌜ (r ≡ true → i < 8208) ⌝ }
+{
+    if i < 16 {
+        return true;
     }
+    if 8208 <= i {
+        return false;
+    }
+    (i - 16) * (count + 1) < 8192
 }
 
-// The run of an accepted book: plain passes, and for a long run then the watched ones.
+// The run of an accepted book: plain passes, and for a long run then the watched ones. These get the columns by names of their own, which
+// a short run then need not lay out.
 fn solve_checked(
     xs: &[u16],
     ys: &[u16],
@@ -256,10 +262,9 @@ fn solve_checked(
     let f = floor(total(xs, ys, zs, ks, count));
     clear(times);
     let no_words: [u64; 1] = [0];
-    let most = plain_passes(count);
     let mut s: u64 = 0;
     let mut i: usize = 0;
-    while i < most {
+    while stays_plain(i, count) {
         let p = pass(
             xs,
             ys,
@@ -283,12 +288,20 @@ fn solve_checked(
             return Solved::Plan(steps);
         }
         if pays(i, steps - s, count) {
-            return finish_long(xs, ys, zs, ks, count, f, steps, times);
+            let x = xs;
+            let y = ys;
+            let z = zs;
+            let k = ks;
+            return finish_long(x, y, z, k, count, f, steps, times);
         }
         s = steps;
         i += 1;
     }
-    finish_long(xs, ys, zs, ks, count, f, s, times)
+    let x = xs;
+    let y = ys;
+    let z = zs;
+    let k = ks;
+    finish_long(x, y, z, k, count, f, s, times)
 }
 
 // The bench run: the plan, or none, on any arguments. The lent times hold the assignment as it stood at the end.

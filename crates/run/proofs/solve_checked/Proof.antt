@@ -2,7 +2,7 @@ use borrow.Author.Needs.{needs, sfits-of}
 use mathlib.Core.Path.{_≡_, sym, ap, _∙_}
 use mathlib.Core.Bool.{true, false, true≢false}
 use mathlib.Core.List.{List}
-use Prim.Native.Nat.{ℕ, _-_}
+use Prim.Native.Nat.{ℕ, _-_, _<_, _≤_}
 use native.Mathlib.Omega.{arith}
 use lib.ListN.{length, length-replicate}
 use lib.IntN.{ℤ, pos}
@@ -14,6 +14,7 @@ use Rattle.maxatom.specs.Book.{floor}
 use Rattle.maxatom.specs.declared.Rule.{Rule}
 use Rattle.derivation.specs.Run.{pass}
 use Rattle.table.specs.Columns.{rulesOf}
+use Rattle.table.proofs.Rows.{rows-length}
 use Rattle.run.specs.Passing.{runOf}
 use Rattle.run.specs.Passing.{Looping}
 use Rattle.solver.proofs.Steps.{small-of, total-bound}
@@ -22,10 +23,10 @@ use Rattle.run.proofs.solve_checked.Statement.{statement}
 use Rattle.run.proofs.solve_checked.Tie as tie
 
 abbrev Inv-loop : tie.InvT-loop
-Inv-loop xs ys zs ks count times₀ f no-words most s₀ i₀ times s i = Looping (length times₀) (rulesOf xs ys zs ks count) times s
+Inv-loop xs ys zs ks count times₀ f no-words s₀ i₀ times s i = Looping (length times₀) (rulesOf xs ys zs ks count) times s
 
 abbrev μ-loop : tie.MeasureT-loop
-μ-loop xs ys zs ks count times₀ f no-words most s₀ i₀ times s i = most - i
+μ-loop xs ys zs ks count times₀ f no-words s₀ i₀ times s i = 8208 - i
 
 abbrev start : tie.After-floor Inv-loop μ-loop → tie.Start Inv-loop μ-loop
 start c = c .before .before .before .before .before
@@ -36,12 +37,16 @@ rules s = rulesOf (now (s .args .xs)) (now (s .args .ys)) (now (s .args .zs)) (n
 floor-is : (c : tie.After-floor Inv-loop μ-loop) → toZ w32 (ofZ w32 (c .floor .result)) ≡ floor (rules (start c))
 floor-is c = toZ-ofZ {w = w32} (sfits-of (c .floor .ok)) ∙ rw (c .before .total .ensures) at (c .floor .ensures)
 
+-- the rules are as many as the table's
+short : (c : tie.After-floor Inv-loop μ-loop) → start c .args .count ≤ 1024
+short c = let a = start c .args in omega (arith, start c .pre .1 .short, rows-length (now (a .xs)) (now (a .ys)) (now (a .zs)) (now (a .ks)) 0 (a .count))
+
 abbrev floor-at : tie.At-loop Inv-loop μ-loop → tie.After-floor Inv-loop μ-loop
-floor-at l = l .before .before .before .before .before
+floor-at l = l .before .before .before .before
 
 -- the times are as many as they were
-cleared : (l : tie.At-loop Inv-loop μ-loop) → length (l .before .before .before .clear .last .0) ≡ length (now (start (floor-at l) .args .times))
-cleared l = ap length (l .before .before .before .clear .ensures) ∙ length-replicate _ (pos 0)
+cleared : (l : tie.At-loop Inv-loop μ-loop) → length (l .before .before .clear .last .0) ≡ length (now (start (floor-at l) .args .times))
+cleared l = ap length (l .before .before .clear .ensures) ∙ length-replicate _ (pos 0)
 
 size-at : (l : tie.At-loop Inv-loop μ-loop) → length (l .loop .times) ≡ length (now (start (floor-at l) .args .times))
 size-at l = size-of (l .loop .inv .running) ∙ cleared l
@@ -49,7 +54,7 @@ size-at l = size-of (l .loop .inv .running) ∙ cleared l
 -- what a pass made
 module _ (c : tie.After-pass Inv-loop μ-loop) where
   abbrev at : tie.At-loop Inv-loop μ-loop
-  at = c .before .before .before .before
+  at = c .before .before .before .before .before
 
   said : runOf (c .pass .result) (c .pass .last .1 .1 .1 .1 .1 .1 .1 .1 .1 .1 .0) ≡ pass (floor (rules (start (floor-at at)))) (rules (start (floor-at at))) (at .loop .times) (at .loop .s)
   said = rw (floor-is (floor-at at)) at (c .pass .ensures .0)
@@ -57,8 +62,12 @@ module _ (c : tie.After-pass Inv-loop μ-loop) where
   size : length (c .pass .last .1 .1 .1 .1 .1 .1 .1 .1 .1 .1 .0) ≡ length (now (start (floor-at at) .args .times))
   size = c .pass .kept .1 .1 .1 .1 .1 .1 .1 .1 .1 .1 .0 ∙ size-at at
 
-  next : c .pass .result .fell ≡ false → (c .pass .result .steps ≡ at .loop .s → ⊥) → Looping (length (at .before .before .before .clear .last .0)) (rules (start (floor-at at))) (c .pass .last .1 .1 .1 .1 .1 .1 .1 .1 .1 .1 .0) (c .pass .result .steps)
+  next : c .pass .result .fell ≡ false → (c .pass .result .steps ≡ at .loop .s → ⊥) → Looping (length (at .before .before .clear .last .0)) (rules (start (floor-at at))) (c .pass .last .1 .1 .1 .1 .1 .1 .1 .1 .1 .1 .0) (c .pass .result .steps)
   next e q = solved-next (at .loop .inv) (c .pass .result) _ said e q
+
+-- a pass is made while passes stay plain
+plain : (c : tie.Else4 Inv-loop μ-loop) → at (c .before .before .before .before .before) .loop .i < 8208
+plain c = let d = c .before .before .before .before .before .before .before .before in d .before .stays-plain .ensures (d .if1 .taken)
 
 pub solve-checked-spec : {M : Type 1} → statement M
 solve-checked-spec =
@@ -69,29 +78,29 @@ solve-checked-spec =
     (λ c κs. let p = c .before .before .before .pre in (p .0, small-of (p .1)))
     (λ c κs. omega (arith, c .total .ensures, total-bound (c .before .before .before .before .pre .1)))
     (λ c κs. search needs)
-    (λ c κs. search needs)
-    (λ c. rw (c .before .before .clear .ensures, length-replicate) (looping-none (start (c .before .before .before .before) .pre .1)))
+    (λ c. rw (c .before .clear .ensures, length-replicate) (looping-none (start (c .before .before .before) .pre .1)))
+    (λ c κs. short (floor-at c))
     (λ c. search needs)
-    (λ c κs. let l = c .before .before .before in
+    (λ c κs. let l = c .before .before .before .before in
     let p = l .loop .inv .running in
     (start (floor-at l) .pre .0, (rw (size-of p) p, (floor-is (floor-at l), (λ e. absurd (true≢false (sym e)), λ e. absurd (true≢false (sym e)))))))
     (λ c. size (c .before .before))
     (λ c. let d = c .before .before in
-    rw (cleared (at d)) at (solved-fell (at d .loop .inv) (d .pass .result) _ (said d) (c .if1 .taken)))
+    rw (cleared (at d)) at (solved-fell (at d .loop .inv) (d .pass .result) _ (said d) (c .if2 .taken)))
     (λ c. size (c .before .before .before))
     (λ c. let d = c .before .before .before in
-    rw (cleared (at d)) at (solved-still (at d .loop .inv) (d .pass .result) _ (said d) (c .before .if1 .left) (c .if2 .taken)))
+    rw (cleared (at d)) at (solved-still (at d .loop .inv) (d .pass .result) _ (said d) (c .before .if2 .left) (c .if3 .taken)))
     (λ c. let d = c .before .before .before in omega (arith, looping-more (at d .loop .inv) (runOf (d .pass .result) (d .pass .last .1 .1 .1 .1 .1 .1 .1 .1 .1 .1 .0)) (said d)))
     (λ c κs. search needs)
     (λ c κs. let d = c .before .before .before .before .before .before in
-    (start (floor-at (at d)) .pre .0, (rw (c .before .before .before .before .before .before .pass .kept .1 .1 .1 .1 .1 .1 .1 .1 .1 .1 .0 ∙ size-of (at d .loop .inv .running)) (next d (c .before .before .before .before .if1 .left) (c .before .before .before .if2 .left)), floor-is (floor-at (at d)))))
+    (start (floor-at (at d)) .pre .0, (rw (c .before .before .before .before .before .before .pass .kept .1 .1 .1 .1 .1 .1 .1 .1 .1 .1 .0 ∙ size-of (at d .loop .inv .running)) (next d (c .before .before .before .before .if2 .left) (c .before .before .before .if3 .left)), floor-is (floor-at (at d)))))
     (λ c. c .before .finish-long .kept .1 .1 .1 .1 .1 .1 .1 .0 ∙ size (c .before .before .before .before .before .before .before .before))
     (λ c. rw (size (c .before .before .before .before .before .before .before .before)) at (c .before .finish-long .ensures))
-    (λ c. search needs)
-    (λ c. search needs)
-    (λ c. next (c .before .before .before .before .before) (c .before .before .before .if1 .left) (c .before .before .if2 .left))
-    (λ c κs. let l = c .before .before in
+    (λ c. omega (arith, plain c))
+    (λ c. omega (arith, plain c))
+    (λ c. next (c .before .before .before .before .before) (c .before .before .before .if2 .left) (c .before .before .if3 .left))
+    (λ c κs. let l = c .before .before .before in
     let v = l .loop .inv in
     (start (floor-at l) .pre .0, (rw (size-of (v .running)) v, floor-is (floor-at l))))
-    (λ c. c .before .finish-long2 .kept .1 .1 .1 .1 .1 .1 .1 .0 ∙ size-at (c .before .before .before .before))
-    (λ c. rw (size-at (c .before .before .before .before)) at (c .before .finish-long2 .ensures)))
+    (λ c. c .before .finish-long2 .kept .1 .1 .1 .1 .1 .1 .1 .0 ∙ size-at (c .before .before .before .before .before))
+    (λ c. rw (size-at (c .before .before .before .before .before)) at (c .before .finish-long2 .ensures)))
