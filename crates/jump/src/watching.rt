@@ -13,30 +13,41 @@ pub fn mark(steps: u64, last: usize, minutes: u64) -> u16 {
     ((steps % 1024 + (last as u64) % 1024 * 7) % 251 + (minutes % 251) * 256) as u16
 }
 
-// The later half of the first `seen` marks are those `p` before them, in the bits of the mask.
-fn repeats(marks: &[u16], seen: usize, p: usize, mask: u16) -> bool
+// How many of the later half of the first `seen` marks, from the last one back, are those `p` before them, in the bits of the mask.
+fn alike(marks: &[u16], seen: usize, p: usize, mask: u16) -> usize
     requires { ⌜ seen ≤ length (now marks) ⌝ }
     requires { ⌜ 2 * p ≤ seen ⌝ }
 {
     let mut i = 1;
     while i <= seen / 2 {
         if (marks[seen - i] & mask) != (marks[seen - i - p] & mask) {
-            return false;
+            return i - 1;
         }
         i += 1;
     }
-    true
+    seen / 2
 }
 
-// The least number of passes that repeat, or 0.
+// How many marks a look may find alike in vain: some for each mark seen.
+fn patience(seen: usize) -> usize {
+    if seen < 65536 { seen * 32 } else { 2097152 }
+}
+
+// The least number of passes that repeat, or 0, also where it takes too long to tell.
 pub fn period(marks: &[u16], seen: usize, mask: u16) -> usize
     requires { ⌜ seen ≤ length (now marks) ⌝ }
 {
+    let mut left = patience(seen);
     let mut p = 1;
     while p <= seen / 2 {
-        if repeats(marks, seen, p, mask) {
+        let same = alike(marks, seen, p, mask);
+        if seen / 2 <= same {
             return p;
         }
+        if left < same {
+            return 0;
+        }
+        left -= same;
         p += 1;
     }
     0
@@ -70,12 +81,12 @@ pub fn few(steps: u64, count: usize) -> bool {
     steps < (count as u64) / 8
 }
 
-// A jump of so many steps was worth the look: as passes of so many each it is several times as long as those seen.
+// A jump of so many steps was worth the look: as passes of so many each it is at least half as long as those seen.
 fn is_long(k: u64, made: u64, look: usize) -> bool {
     if made < 1 {
         return false;
     }
-    (look as u64) < k / made / 4
+    (look as u64) / 2 <= k / made
 }
 
 // How many passes to let go unwatched after a look: noting costs time for each step, so none where these are few.

@@ -251,7 +251,7 @@ fn are_few(parts: u16, wait: usize) -> bool {
     if parts < 3 {
         false
     } else {
-        (parts as usize) <= wait / 16
+        (parts as usize) <= wait / 32
     }
 }
 

@@ -4,22 +4,10 @@ use Rattle.jump.proofs.watching.period.Statement.{statement}
 use Rattle.jump.proofs.watching.period.Tie as tie
 
 abbrev Inv-loop : tie.InvT-loop
-Inv-loop marks seen mask p₀ p = 1 ≤ p
+Inv-loop marks seen mask left₀ p₀ left p = 1 ≤ p
 
 abbrev μ-loop : tie.MeasureT-loop
-μ-loop marks seen mask p₀ p = suc seen - p
-
-loop-holds : tie.Need-loop-holds Inv-loop μ-loop
-loop-holds c = search needs
-
-returns : tie.Need-returns Inv-loop μ-loop
-returns c = search needs
-
-loop-again : tie.Need-loop-again Inv-loop μ-loop
-loop-again c = search needs
-
-returns-2 : tie.Need-returns-2 Inv-loop μ-loop
-returns-2 c = search needs
+μ-loop marks seen mask left₀ p₀ left p = suc seen - p
 
 pub period-spec : {M : Type 1} → statement M
 period-spec =
@@ -27,10 +15,12 @@ period-spec =
     (tie.spec
     Inv-loop
     μ-loop
-    loop-holds
     (λ c κs. search needs)
-    returns
+    (λ c. search needs)
+    (λ c κs. search needs)
     (λ c. search needs)
     (λ c. search needs)
-    loop-again
-    returns-2)
+    (λ c. search needs)
+    (λ c. search needs)
+    (λ c. search needs)
+    (λ c. search needs))
