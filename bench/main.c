@@ -1,5 +1,5 @@
 // Times the exported bench run against straight passes, on families of books (docs/PERFORMANCE.md).
-// With a word, only those with the word in their names. Ends with status 1 where an answer, a step count or a time differs.
+// With a word, only those with the word in their names. With --survey, a hundred other books of each random family. Ends with status 1 where an answer, a step count or a time differs.
 #define _GNU_SOURCE
 #include <inttypes.h>
 #include <pthread.h>
@@ -549,6 +549,54 @@ static int measure(const Family *f) {
     return differs;
 }
 
+// ---- survey ----
+
+enum { SURVEYED = 100 };
+
+// Seconds of a call: of a short one the median of five batches, with warm caches.
+static double timed(const Book *b, Out *o, int by_straight, uint64_t *passes) {
+    double t = now();
+    *passes = by_straight ? straight(b, o) : (patient_solve(b, o), 1);
+    t = now() - t;
+    if (0.001 < t)
+        return t;
+    double batch[5];
+    for (int j = 0; j < 5; j++) {
+        t = now();
+        for (int i = 0; i < 20; i++)
+            by_straight ? (void)straight(b, o) : solve(b, o);
+        batch[j] = (now() - t) / 20;
+    }
+    return median(batch, 5);
+}
+
+// Other books of a random family: how many straight passes finish in a tenth of a second, the least ratio and how many are below 0.9 among
+// these, and the longest solve of all. 0 where the answers agree.
+static int survey(const Family *f) {
+    static Book b;
+    static Out fast, slow;
+    int finished = 0, low = 0, differs = 0;
+    double least = 1e300, longest = 0;
+    limit = 0.1;
+    for (int i = 1; i <= SURVEYED; i++) {
+        uint64_t passes, one;
+        make(f, f->offset, i, &b);
+        double t = timed(&b, &fast, 0, &one), u = timed(&b, &slow, 1, &passes);
+        if (longest < t)
+            longest = t;
+        if (!passes)
+            continue;
+        finished++;
+        differs |= !same(&b, &fast, &slow);
+        low += u < 0.9 * t;
+        if (u / t < least)
+            least = u / t;
+    }
+    printf("| %s | %d | %d | %s | %d | %s |%s\n", f->name, SURVEYED, finished, finished ? number(least) : "", low, number(longest * 1e3),
+           differs ? " DIFFERS" : "");
+    return differs;
+}
+
 // ---- stack ----
 
 enum { STACK = 1 << 20, PAINT = 0xa5 };
@@ -582,15 +630,19 @@ static size_t depth(void *(*body)(void *)) {
 }
 
 int main(int argc, char **argv) {
-    int differs = refusals();
-    printf("| Book | Jobs | Rules | Answer | Passes | Steps | Straight / solve | solve, ms |\n|---|---|---|---|---|---|---|---|\n");
+    int differs = refusals(), others = 1 < argc && !strcmp(argv[1], "--survey");
+    if (others) {
+        argc--, argv++;
+        printf("| Book | Books | Finished by straight passes | Least straight / solve | Below 0.9 | Longest solve, ms |\n|---|---|---|---|---|---|\n");
+    } else
+        printf("| Book | Jobs | Rules | Answer | Passes | Steps | Straight / solve | solve, ms |\n|---|---|---|---|---|---|---|---|\n");
     for (size_t i = 0; i < sizeof families / sizeof *families; i++) {
-        if (1 < argc && !strstr(families[i].name, argv[1]))
+        if ((1 < argc && !strstr(families[i].name, argv[1])) || (others && !families[i].seed))
             continue;
         fflush(stdout);
         pid_t child = fork();
         if (child == 0)
-            exit(measure(&families[i]));
+            exit(others ? survey(&families[i]) : measure(&families[i]));
         int status;
         waitpid(child, &status, 0);
         if (WIFSIGNALED(status) && WTERMSIG(status) == SIGALRM)
