@@ -1,8 +1,15 @@
 #!/usr/bin/env python3
-"""What the programs `examples`, `calls`, `limits` and `small_books` must write, worked out apart from the code they test.
+"""What the programs `examples`, `calls`, `limits`, `small_books` and `latest` must write, and what each call of the library must
+answer, worked out apart from the code they test.
+
+    python3 tools/reference.py NAME
+
+writes what the program of that name must write (without a name, `examples`).
 
 The run is the bench run of the scope: passes over the rules from 0 upward, a step on each
 broken rule, an end after a pass without a step (a plan) or when a time falls below -K (none).
+
+A reply is the library's three words (embed/marlinfray.h): 0 and the answer, 1 for a broken rule or none, 2 and a refusal.
 """
 
 import itertools
@@ -15,20 +22,12 @@ def book(n, rules):
     return struct.pack("<2sH", b"BK", n) + b"".join(struct.pack("<2sHHHi", b"RU", *r) for r in rules)
 
 
-def parse(data):
-    """The job count and the rules of a well-formed file."""
-    assert data[:2] == b"BK"
-    n, at, rules = struct.unpack_from("<H", data, 2)[0], 4, []
-    while at < len(data):
-        x, y, z = struct.unpack_from("<HHH", data, at + 2)
-        if data[at : at + 2] == b"HR":
-            rules.append((x, y, z, 60 * struct.unpack_from("<h", data, at + 8)[0]))
-            at += 10
-        else:
-            assert data[at : at + 2] == b"RU"
-            rules.append((x, y, z, struct.unpack_from("<i", data, at + 8)[0]))
-            at += 12
-    return n, rules
+def rule_of(part):
+    """The rule of a record's bytes."""
+    x, y, z = struct.unpack_from("<HHH", part, 2)
+    if part[:2] == b"HR":
+        return x, y, z, 60 * struct.unpack_from("<h", part, 8)[0]
+    return x, y, z, struct.unpack_from("<i", part, 8)[0]
 
 
 def left(rule, times):
@@ -48,7 +47,7 @@ def broken(rules, times):
 
 def run(n, rules):
     """The times at the end, the steps, and the job that fell or None."""
-    times, steps = [0] * n, 0
+    times, steps, floor = [0] * n, 0, -total(rules)
     while True:
         before = steps
         for rule in rules:
@@ -56,14 +55,18 @@ def run(n, rules):
             if times[z] > left(rule, times):
                 times[z] = left(rule, times)
                 steps += 1
-                if times[z] < -total(rules):
+                if times[z] < floor:
                     return times, steps, z
         if steps == before:
             return times, steps, None
 
 
 def text(data):
-    n, rules = parse(data)
+    """What `latest` prints for a file."""
+    reply, rules = read(data, 1024)
+    if reply[0] == 2:
+        return "REFUSED %d %d\n" % reply[1:]
+    n = reply[1]
     times, steps, fell = run(n, rules)
     lines = ["BOOK %d %d %d" % (n, len(rules), total(rules))]
     if fell is None:
@@ -108,7 +111,8 @@ def records(data, numbers):
     """A rule's record by its number: its length and its bytes."""
     out = ""
     for i in numbers:
-        part = data[4:][12 * i : 12 * i + 12]
+        _, at, size = record(data, i)
+        part = data[at : at + size]
         out += " ".join(["RECORD", str(i), str(len(part))] + [str(b) for b in part]) + "\n"
     return out
 
@@ -157,35 +161,55 @@ def small_books(n, count):
     return out
 
 
-def read(data, places):
-    """The reader: the job count and the rules, or a refusal's number and byte."""
-    at, n, rules = 0, None, []
+def scan(data):
+    """The reader's walk through a file: the number and the byte of the first fault, or None; the job count; and for each rule the
+    byte where its record begins, the record's length and the rule."""
+    at, n, found = 0, None, []
     while at < len(data) or n is None:
         mark = data[at : at + 2]
         if len(mark) < 2:
-            return (1, at), None, None
+            return (1, at), n, found
         if mark not in (b"BK", b"RU", b"HR"):
-            return (2, at), None, None
+            return (2, at), n, found
         if (mark == b"BK") != (n is None):
-            return (3, at), None, None
-        if len(rules) == 1024:
-            return (5, at), None, None
+            return (3, at), n, found
+        if len(found) == 1024:
+            return (5, at), n, found
         size = {b"BK": 4, b"RU": 12, b"HR": 10}[mark]
         if at + size > len(data):
-            return (1, at), None, None
+            return (1, at), n, found
         if mark == b"BK":
             n = struct.unpack_from("<H", data, 2)[0]
             if not 1 <= n <= 256:
-                return (4, at), None, None
+                return (4, at), n, found
         else:
-            rule = parse(b"BK\0\0" + data[at : at + size])[1][0]
+            rule = rule_of(data[at : at + size])
             if max(rule[:3]) >= n:
-                return (6, at), None, None
+                return (6, at), n, found
             if abs(rule[3]) > 20160:
-                return (7, at), None, None
-            rules.append(rule)
+                return (7, at), n, found
+            found.append((at, size, rule))
         at += size
-    return ((21, 0), None, None) if places < len(rules) else (None, n, rules)
+    return None, n, found
+
+
+def refused(f):
+    """The reply of a refusal, from its number and place."""
+    return (2,) + f
+
+
+def read(data, places):
+    """The reader: its reply, and the rules where the file is not refused."""
+    f, n, found = scan(data)
+    if not f and places < len(found):
+        f = 21, 0
+    return (refused(f), []) if f else ((0, n, len(found)), [rule for _, _, rule in found])
+
+
+def record(data, number):
+    """A rule's record: the byte where it begins and its length, both 0 where there is none."""
+    f, _, found = scan(data)
+    return (0,) + found[number][:2] if not f and number < len(found) else (0, 0, 0)
 
 
 def fault(n, rules, times):
@@ -202,17 +226,19 @@ def fault(n, rules, times):
     return None if len(times) == n else (21, 0)
 
 
-def refused(f):
-    return " REFUSED %d %d" % f
+def initial(n, buffer):
+    """The fresh board: the reply, and the buffer afterwards."""
+    f = fault(n, [], buffer)
+    return (refused(f), buffer) if f else ((0, 0, 0), [0] * n)
 
 
 def solved(n, rules, buffer):
-    """The bench run: its words, and the buffer afterwards."""
+    """The bench run: its reply, and the buffer afterwards."""
     f = fault(n, rules, buffer)
     if f:
         return refused(f), buffer
     times, steps, fell = run(n, rules)
-    return " PLAN %d" % steps if fell is None else " NONE %d %d" % (steps, fell), times
+    return ((0, steps, 0) if fell is None else (1, steps, fell)), times
 
 
 def kept(n, rules, times):
@@ -220,18 +246,18 @@ def kept(n, rules, times):
     if f:
         return refused(f)
     at = broken(rules, times)
-    return " BROKEN %d" % at[0] if at else " KEPT"
+    return (1, at[0], 0) if at else (0, 0, 0)
 
 
 def tight(n, rules, times, number):
     f = fault(n, rules, times) or ((24, 0) if number >= len(rules) else None)
     if f:
         return refused(f)
-    return " TIGHT" if left(rules[number], times) == times[rules[number][2]] else " SLACK"
+    return 0, int(left(rules[number], times) == times[rules[number][2]]), 0
 
 
 def step(n, rules, times, tally, number):
-    """A hand step: its words, and the times and the tally afterwards."""
+    """A hand step: its reply, and the times and the tally afterwards."""
     k = total(rules)
     f = fault(n, rules, times)
     if not f and not all(-2 * k <= t <= 0 for t in times):
@@ -249,17 +275,55 @@ def step(n, rules, times, tally, number):
     rule = rules[number]
     after = list(times)
     after[rule[2]] = left(rule, times)
-    return " STEPPED", after, (tally[0] + 1, tally[1] + times[rule[2]] - left(rule, times))
+    return (0, 0, 0), after, (tally[0] + 1, tally[1] + times[rule[2]] - left(rule, times))
 
 
-def class_word(x, y, z, k):
+def write_plan(times, out, at):
+    """The plan writer: its reply, and the bytes afterwards."""
+    f = (4, 0) if not 1 <= len(times) <= 256 else (21, 0) if at > len(out) - 8 * len(times) else None
+    if f:
+        return refused(f), out
+    part = b"".join(struct.pack("<2sHi", b"PL", *item) for item in enumerate(times))
+    return (0, 0, 0), out[:at] + part + out[at + len(part) :]
+
+
+CLASSES = " IDLE", " IMPOSSIBLE", " ONE-ARMED", " TWO-ARMED"
+
+
+def class_of(x, y, z, k):
+    """The class of a rule, by its number."""
     if k >= 0 and z in (x, y):
-        return " IDLE"
+        return 0
     if k < 0 and x == y == z:
-        return " IMPOSSIBLE"
+        return 1
     if (k < 0 and (z == x) != (z == y)) or (x == y and z != x):
-        return " ONE-ARMED"
-    return " TWO-ARMED"
+        return 2
+    return 3
+
+
+def words(reply, *answers):
+    """A reply as the programs write it, by the words for an answer and those for a broken rule or none."""
+    return " REFUSED {} {}".format(*reply[1:]) if reply[0] == 2 else answers[reply[0]].format(*reply[1:])
+
+
+def read_word(reply):
+    return words(reply, " BOOK {} {}")
+
+
+def solved_word(reply):
+    return words(reply, " PLAN {}", " NONE {} {}")
+
+
+def kept_word(reply):
+    return words(reply, " KEPT", " BROKEN {}")
+
+
+def tight_word(reply):
+    return words(reply, " TIGHT" if reply[1] else " SLACK")
+
+
+def step_word(reply):
+    return words(reply, " STEPPED")
 
 
 def times_word(times):
@@ -272,46 +336,46 @@ def tally_word(tally):
 
 def bench_line(n, rules):
     """The classes, the bench run, and the kept and the tight test on what it leaves."""
-    said, times = solved(n, rules, [0] * n)
-    out = " BOOK %d %d" % (n, len(rules)) + "".join(class_word(*r) for r in rules) + said + times_word(times)
-    return out + kept(n, rules, times) + "".join(tight(n, rules, times, i) for i in range(len(rules)))
+    reply, times = solved(n, rules, [0] * n)
+    out = " BOOK %d %d" % (n, len(rules)) + "".join(CLASSES[class_of(*r)] for r in rules) + solved_word(reply) + times_word(times)
+    return out + kept_word(kept(n, rules, times)) + "".join(tight_word(tight(n, rules, times, i)) for i in range(len(rules)))
 
 
 def hand_line(n, rules):
     """Three rounds of hand steps from a fresh board, on each rule and then on none."""
     times, tally, out = [0] * n, (0, 0), ""
     for number in list(range(len(rules) + 1)) * 3:
-        said, times, tally = step(n, rules, times, tally, number)
-        out += said
+        reply, times, tally = step(n, rules, times, tally, number)
+        out += step_word(reply)
     return out + times_word(times) + tally_word(tally)
 
 
 def reading_line(data, places):
-    f, n, rules = read(data, places)
-    return " PLACES %d" % places + (refused(f) if f else " BOOK %d %d" % (n, len(rules)))
+    return " PLACES %d" % places + read_word(read(data, places)[0])
 
 
 def limit_line(n, rule, count, length):
     """The calls on so many of one rule, with buffers of that length."""
     rules = [rule] * count
-    said, times = solved(n, rules, [0] * length)
-    out = "LIMIT %d %d %d %d %d %d %d" % ((n,) + rule + (count, length)) + said + kept(n, rules, times) + tight(n, rules, times, 0)
-    said, _, tally = step(n, rules, [0] * length, (0, 0), 0)
-    return out + said + tally_word(tally)
+    reply, times = solved(n, rules, [0] * length)
+    out = "LIMIT %d %d %d %d %d %d %d" % ((n,) + rule + (count, length)) + solved_word(reply)
+    out += kept_word(kept(n, rules, times)) + tight_word(tight(n, rules, times, 0))
+    reply, _, tally = step(n, rules, [0] * length, (0, 0), 0)
+    return out + step_word(reply) + tally_word(tally)
 
 
 def held_line(time, tally, number):
     """A hand step on example D's book."""
-    said, times, after = step(1, [(0, 0, 0, -1)], [time], tally, number)
-    return "HELD" + times_word([time]) + tally_word(tally) + " %d" % number + said + times_word(times) + tally_word(after)
+    reply, times, after = step(1, [(0, 0, 0, -1)], [time], tally, number)
+    return "HELD" + times_word([time]) + tally_word(tally) + " %d" % number + step_word(reply) + times_word(times) + tally_word(after)
 
 
 def calls():
     """The examples and the limits through the planner's public calls, a line a case."""
     l = 2, [(0, 1, 0, -1), (0, 0, 1, -3)]
     lines = [k + line(*v) for k, v in [*EXAMPLES.items(), ("L", l)] for line in (bench_line, hand_line)]
-    said, times, tally = step(*l, [0, -3], (1, 3), 0)
-    lines.append("L" + said + times_word(times) + tally_word(tally) + kept(*l, times))
+    reply, times, tally = step(*l, [0, -3], (1, 3), 0)
+    lines.append("L" + step_word(reply) + times_word(times) + tally_word(tally) + kept_word(kept(*l, times)))
     lines += ["B" + reading_line(book(4, B), places) for places in (3, 4)]
     idle = 0, 0, 0, 0
     lines += [limit_line(n, idle, 0, n) for n in (0, 1, 256, 257)]
@@ -327,12 +391,10 @@ def limits():
     """Files and plans at and past each limit: what the reader and the plan writer answer."""
 
     def reads(data):
-        f, n, rules = read(data, 1024)
-        return refused(f) if f else " BOOK %d %d" % (n, len(rules))
+        return read_word(read(data, 1024)[0])
 
     def writes(n, at):
-        f = (4, 0) if not 1 <= n <= 256 else (21, 0) if at > 2048 - 8 * n else None
-        return refused(f) if f else " WRITTEN"
+        return words(write_plan([0] * n, bytes(2048), at)[0], " WRITTEN")
 
     lines = ["jobs %d:" % n + reads(book(n, [])) for n in (0, 1, 256, 257)]
     lines += ["rules %d:" % count + reads(book(1, [(0, 0, 0, 0)] * count)) for count in (1024, 1025)]
@@ -344,16 +406,19 @@ def limits():
     return "\n".join(lines) + "\n"
 
 
+def examples():
+    """The examples: their texts, the hand steps of L and the records of B."""
+    out = "".join(letter + "\n" + text(book(*b)) for letter, b in EXAMPLES.items())
+    return out + "L\n" + hand() + "B\n" + records(book(4, B), range(5))
+
+
+PROGRAMS = {
+    "examples": examples,
+    "calls": calls,
+    "limits": limits,
+    "small_books": lambda: "".join(small_books(n, count) for n, count in ((2, 0), (2, 1), (2, 2), (3, 2))),
+    "latest": lambda: text(book(4, B)),
+}
+
 if __name__ == "__main__":
-    if sys.argv[1:] == ["calls"]:
-        sys.stdout.write(calls())
-    elif sys.argv[1:] == ["limits"]:
-        sys.stdout.write(limits())
-    elif sys.argv[1:] == ["small_books"]:
-        for n, count in ((2, 0), (2, 1), (2, 2), (3, 2)):
-            sys.stdout.write(small_books(n, count))
-    else:
-        for letter, (n, rules) in EXAMPLES.items():
-            sys.stdout.write(letter + "\n" + text(book(n, rules)))
-        sys.stdout.write("L\n" + hand())
-        sys.stdout.write("B\n" + records(book(4, B), range(5)))
+    sys.stdout.write(PROGRAMS[sys.argv[1] if 1 < len(sys.argv) else "examples"]())

@@ -6,6 +6,5 @@ pub mod Plans
 pub mod Prefix
 pub mod Determined
 pub mod Stretches
-pub mod Columns
 pub mod Tables
 pub mod Files

@@ -10,12 +10,13 @@ use lib.IntN.{ℤ, pos}
 use borrow.Rule.Slice.PartMut.{putMid, postOf, same-len-mid}
 use lib.Dec.{ltb}
 use borrow.Author.Tests.{lt-ltb, le-ltb}
+use Rattle.derivation.specs.Replies.{outcomeReply}
 use Rattle.derivation.specs.Refusals.{Reply, refused, answer, Check, check, verdict, lent, jobsCheck}
 use Rattle.derivation.proofs.Checks.{says, skips, accepting}
-use Rattle.bookfile.specs.declared.writing.Written.{Written}
-use Rattle.bookfile.specs.declared.writing.Written.the-variants.{Done, Refused}
+use Rattle.derivation.specs.declared.Outcome.{Outcome}
+use Rattle.derivation.specs.declared.Outcome.the-variants.{Done, Refused}
 use Rattle.bookfile.specs.Numbers.{bytesOf, unsigned32}
-use Rattle.bookfile.specs.Writing.{planRecord, planFrom, planChecks, planned, planOut, writtenOf}
+use Rattle.bookfile.specs.Writing.{planRecord, planFrom, planChecks, planned, planOut}
 
 -- eight stores at the front
 pub eight : (out : List ℕ) → 8 ≤ length out → (a b c d e f g h : ℕ) →
@@ -161,11 +162,11 @@ module _ (times : List ℤ) (out : List ℕ) (at : ℕ) where
       plan-passes h = plan-counted ∙ accepting (room ∷ []) tt (le-ltb (length out) (at + length times * 8) h, tt)
 
   -- the reply and the output, refused or not
-  pub plan-refused : {number : ℕ} (r : Written) → r ≡ Refused (record { number = number; place = 0 }) → said ≡ refused number 0 →
-      (writtenOf r ≡ said) × (out ≡ planOut times out at)
-  unfolding writtenOf planOut lent
-  plan-refused r e s = (ap writtenOf e ∙ sym s, rw s)
+  pub plan-refused : {number : ℕ} (r : Outcome) → r ≡ Refused (record { number = number; place = 0 }) → said ≡ refused number 0 →
+      (outcomeReply r ≡ said) × (out ≡ planOut times out at)
+  unfolding outcomeReply planOut lent
+  plan-refused r e s = (ap outcomeReply e ∙ sym s, rw s)
 
-  pub plan-done : {after : List ℕ} → after ≡ planned times out at → said ≡ answer tt → (writtenOf Done ≡ said) × (after ≡ planOut times out at)
-  unfolding writtenOf planOut lent
+  pub plan-done : {after : List ℕ} → after ≡ planned times out at → said ≡ answer tt → (outcomeReply Done ≡ said) × (after ≡ planOut times out at)
+  unfolding outcomeReply planOut lent
   plan-done e s = (sym s, e ∙ rw s)

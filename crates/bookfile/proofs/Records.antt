@@ -12,7 +12,7 @@ use Rattle.maxatom.specs.declared.Rule.{Rule}
 use Rattle.maxatom.proofs.Choose.{cond-yes, cond-no}
 use Rattle.derivation.specs.Refusals.{Reply, refused, answer, Check, check, reply, verdict, jobsCheck, jobOutside, offsetOutside}
 use Rattle.derivation.proofs.Checks.{says, skips, accepting}
-use Rattle.table.specs.Replies.{faultOf}
+use Rattle.table.specs.Faults.{faultOf}
 use Rattle.bookfile.specs.Numbers.{word, long, signed16, signed32}
 use Rattle.bookfile.specs.Reading.{BK, RU, HR, known, sizeOf, sizeAt, hoursAt, minutesAt, offsetAt, ruleAt, beyond, outsideAt, recordChecks, ruleReply, headChecks}
 use Rattle.bookfile.specs.Replies.{fullFault, markFault, firstFault}

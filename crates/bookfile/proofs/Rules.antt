@@ -13,7 +13,7 @@ use Rattle.derivation.specs.Refusals.{Reply, refused, answer, accepts, Check}
 use Rattle.derivation.proofs.Checks.{passed, accepting}
 use Rattle.bookfile.specs.Reading.{sizeAt, ruleAt, recordChecks, ruleReply, Entry, before, rulesFrom}
 use Rattle.bookfile.specs.Replies.{counted}
-use Rattle.bookfile.specs.declared.reading.Counts.{Counts}
+use Rattle.derivation.specs.declared.Counts.{Counts}
 
 -- a record that is taken is in the file, and not past the 1,024th
 module _ (jobs : ℕ) (file : List ℕ) (count at : ℕ) {r : Rule} (e : ruleReply jobs file count at ≡ answer r) where

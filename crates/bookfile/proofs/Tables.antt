@@ -1,23 +1,21 @@
--- The rules that the reader leaves in the columns are the file's, and the table's checks pass them. Assumes nothing.
-use mathlib.Core.Path.{_≡_, refl, sym, ap, _∙_}
+-- The rules of a file that is not refused pass the table's checks. Assumes nothing.
+use mathlib.Core.Path.{_≡_, sym, ap}
 use mathlib.Core.Bool.{Bool, true, false, cond}
-use mathlib.Core.List.{List, [], _∷_, _++_, map}
+use mathlib.Core.List.{List, [], _∷_, map}
 use Prim.Native.Nat.{ℕ, zero, suc, _+_, _≤_}
 use native.Mathlib.Omega.{arith}
 use borrow.Author.Tests.{le-ltb}
 use lib.Dec.{leb}
-use lib.ListN.{length, drop, getD, length-map}
-use lib.Seq.{getD-drop, drop-drop}
-use lib.IntN.{ℤ, pos}
+use lib.ListN.{length, length-map}
 use Rattle.maxatom.specs.Book.{Each}
+use Rattle.derivation.specs.declared.Counts.{Counts}
 use Rattle.maxatom.specs.declared.Rule.{Rule}
 use Rattle.derivation.specs.Refusals.{answer, accepts, Check, ruleChecks, tableChecks}
 use Rattle.derivation.proofs.Checks.{passed, accepting, accepted-iff}
-use Rattle.table.specs.Columns as columns
 use Rattle.bookfile.specs.Numbers.{word}
 use Rattle.bookfile.specs.Reading.{sizeAt, recordChecks, ruleReply, headChecks, Entry, before, rulesFrom, entries}
-use Rattle.bookfile.specs.Replies.{over}
-use Rattle.bookfile.specs.Theorems.{rulesIn, ReadAccepted, ReadColumns}
+use Rattle.bookfile.specs.Replies.{fileReply}
+use Rattle.bookfile.specs.Theorems.{rulesIn, ReadAccepted}
 use Rattle.bookfile.proofs.Records.{outside-same}
 use Rattle.bookfile.proofs.Rules.{passes, rule-is, not-full}
 use Rattle.bookfile.proofs.Walks.{split, listed, listed-counts}
@@ -71,30 +69,6 @@ read-accepted file counts e =
     let t : Each Passed (tableChecks (word file 2) (rulesIn file)) = (h, (le-ltb 1024 (length (rulesIn file)) (omega (arith, n, f .few)), f .pass)) in
     rw c (accepted-iff (tt {0}) (word file 2) (rulesIn file) .1 (ap accepts (accepting (tableChecks (word file 2) (rulesIn file)) (tt {0}) t)), sym n)
 
--- a column from its first entry on
-front : {A : Type 0} (d v : A) (column more : List A) (at : ℕ) → drop at column ≡ v ∷ more → (getD column at d ≡ v) × (drop (at + 1) column ≡ more)
-front {A = A} d v column more at e =
-    let z : at + 0 ≡ at = omega arith in (
-      sym (sym (ap (λ (l : List A). getD l 0 d) e) ∙ getD-drop at column 0 d ∙ ap (λ (n : ℕ). getD column n d) z),
-      sym (drop-drop 1 at column) ∙ ap (drop 1) e,
-    )
-
-columns-from : (es : List Entry) (xs ys zs : List ℕ) (ks : List ℤ) (at : ℕ) (xr yr zr : List ℕ) (kr : List ℤ) →
-    drop at xs ≡ map (λ (e : Entry). e .rule .x) es ++ xr → drop at ys ≡ map (λ (e : Entry). e .rule .y) es ++ yr →
-    drop at zs ≡ map (λ (e : Entry). e .rule .z) es ++ zr → drop at ks ≡ map (λ (e : Entry). e .rule .k) es ++ kr →
-    columns.rulesFrom xs ys zs ks at (length es) ≡ map ruleOf es
-unfolding columns.rulesFrom
-columns-from [] xs ys zs ks at xr yr zr kr a b c d = refl
-columns-from (e ∷ es) xs ys zs ks at xr yr zr kr a b c d =
-    let x = front 0 (e .rule .x) xs _ at a in
-    let y = front 0 (e .rule .y) ys _ at b in
-    let z = front 0 (e .rule .z) zs _ at c in
-    let k = front (pos 0) (e .rule .k) ks _ at d in
-    rw (x .0, y .0, z .0, k .0, columns-from es xs ys zs ks (at + 1) xr yr zr kr (x .1) (y .1) (z .1) (k .1))
-
-pub read-columns : ReadColumns
-unfolding over
-read-columns file xs ys zs ks =
-    let es = entries file in
-    ap (columns.rulesFrom _ _ _ _ 0) (length-map es ruleOf)
-    ∙ columns-from es _ _ _ _ 0 (drop (length es) xs) (drop (length es) ys) (drop (length es) zs) (drop (length es) ks) refl refl refl refl
+-- 1,024 places hold the rules of any file that is not refused
+pub few-rules : (file : List ℕ) {counts : Counts} → fileReply file ≡ answer counts → counts .rules ≤ 1024
+few-rules file e = let a = read-accepted file _ e in omega (arith, a .1, a .0 .short)

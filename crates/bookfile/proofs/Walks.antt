@@ -1,23 +1,20 @@
 -- The rules of a file that is not refused, walked one by one. Assumes nothing.
 use mathlib.Core.Path.{_≡_, refl, sym, ap, _∙_}
-use mathlib.Core.List.{List, [], _∷_, _++_, map, append-assoc}
-use Prim.Native.Nat.{ℕ, zero, suc, _+_, _-_, _<_, _≤_}
-use native.Mathlib.Numerals.{add-one}
+use mathlib.Core.List.{List, [], _∷_}
+use Prim.Native.Nat.{ℕ, _+_, _-_, _<_, _≤_}
 use native.Mathlib.Omega.{arith}
 use native.Mathlib.Decide.{decLt}
 use borrow.Author.Tests.{ltb-false, lt-ltb, le-ltb}
-use lib.ListN.{length, take, drop, set, length-drop, length-append, length-map, drop-of-length-le}
-use lib.Seq.{drop-drop, set-split, take-at, drop-at, length-take-le, take-length}
-use lib.IntN.{ℤ}
+use lib.ListN.{length, take, drop, length-drop, drop-of-length-le}
+use lib.Seq.{drop-drop}
 use Rattle.maxatom.specs.declared.Rule.{Rule}
 use Rattle.maxatom.proofs.Choose.{cond-yes, cond-no}
 use Rattle.derivation.specs.Refusals.{Reply, refused, answer, accepts, reply, verdict, lent}
 use Rattle.derivation.proofs.Checks.{passed}
-use Rattle.table.specs.Columns.{Columns}
 use Rattle.bookfile.specs.Numbers.{word}
-use Rattle.bookfile.specs.Reading.{sizeAt, ruleAt, ruleReply, headChecks, Entry, before, rulesFrom, rulesOf, after, bookReply, entriesOf, entries, stretch, recordOf}
+use Rattle.bookfile.specs.Reading.{sizeAt, ruleAt, ruleReply, headChecks, Entry, before, rulesFrom, rulesOf, after, bookReply, entriesOf, entries, placeAt, placeOf, stretch, recordOf}
 use Rattle.bookfile.specs.Replies.{counted, fileReply, roomed, readReply, over, readInto, Listed, Begins}
-use Rattle.bookfile.specs.declared.reading.Counts.{Counts}
+use Rattle.derivation.specs.declared.Counts.{Counts}
 use Rattle.bookfile.proofs.Rules.{from-record, from-end, next, in-file, not-full, rule-is}
 
 -- a file by its first record
@@ -118,112 +115,35 @@ module _ {file : List ℕ} {at i : ℕ} (w : Walked file at i) (h : i < length (
         rest = parts .says-more ∙ ap answer others-are;
       }
 
--- a column whose first i entries are written
-abbrev pub part : {A : Type 0} → (Rule → A) → List Entry → List A → ℕ → List A
-part field es column i = map (λ (e : Entry). field (e .rule)) (take i es) ++ drop i column
-
-take-next : (i : ℕ) (es : List Entry) {e : Entry} {more : List Entry} → drop i es ≡ e ∷ more → take (suc i) es ≡ take i es ++ (e ∷ [])
-take-next zero [] p = absurd (omega (arith, ap length p))
-take-next zero (d ∷ es) p = cc
-take-next (suc i) [] p = absurd (omega (arith, ap length p))
-take-next (suc i) (d ∷ es) p = ap (λ (l : List Entry). d ∷ l) (take-next i es p)
-
-map-append : {A : Type 0} (f : Entry → A) (es ds : List Entry) → map f (es ++ ds) ≡ map f es ++ map f ds
-map-append f [] ds = refl
-map-append {A = A} f (e ∷ es) ds = ap (λ (l : List A). f e ∷ l) (map-append f es ds)
-
-module _ {A : Type 0} (field : Rule → A) (es : List Entry) (column : List A) (i : ℕ) (h : i ≤ length es) where
-  abbrev front : List A
-  front = map (λ (e : Entry). field (e .rule)) (take i es)
-
-  front-length : length front ≡ i
-  front-length = length-map (take i es) (λ (e : Entry). field (e .rule)) ∙ length-take-le i es h
-
-  pub part-length : i ≤ length column → length (part field es column i) ≡ length column
-  part-length l = omega (arith, length-append front (drop i column), front-length, length-drop i column)
-
-  pub part-next : {e : Entry} {more : List Entry} → drop i es ≡ e ∷ more → i < length column →
-      set (part field es column i) i (field (e .rule)) ≡ part field es column (i + 1)
-  part-next {e} p l =
-      let n = front-length in
-      let v = field (e .rule) in
-      let whole = front ++ drop i column in
-      let d : drop (suc i) whole ≡ drop (i + 1) column =
-      ap (λ (m : ℕ). drop m whole) (sym (add-one i)) ∙ sym (drop-drop 1 i whole) ∙ ap (drop 1) (drop-at front (drop i column) i n) ∙ drop-drop 1 i column in
-      let t : map (λ (q : Entry). field (q .rule)) (take (i + 1) es) ≡ front ++ (v ∷ []) =
-      ap (λ (m : ℕ). map (λ (q : Entry). field (q .rule)) (take m es)) (add-one i) ∙ ap (map (λ (q : Entry). field (q .rule))) (take-next i es p)
-      ∙ map-append (λ (q : Entry). field (q .rule)) (take i es) (e ∷ []) in
-      set-split whole i v (omega (arith, part-length (omega arith)))
-      ∙ ap (λ (x : List A). x ++ v ∷ drop (suc i) whole) (take-at front (drop i column) i n) ∙ ap (λ (x : List A). front ++ v ∷ x) d
-      ∙ sym (append-assoc front (v ∷ []) (drop (i + 1) column)) ∙ ap (λ (x : List A). x ++ drop (i + 1) column) (sym t)
-
-  pub part-all : length es ≤ i → part field es column i ≡ over field es column
-  unfolding over
-  part-all l =
-      let e : i ≡ length es = omega arith in
-      ap (part field es column) e ∙ ap (λ (x : List Entry). map (λ (q : Entry). field (q .rule)) x ++ drop (length es) column) (take-length es)
-
--- the first i rules are written into the columns
-pub record Filled (file xs₀ ys₀ zs₀ : List ℕ) (ks₀ : List ℤ) (xs ys zs : List ℕ) (ks : List ℤ) (at i : ℕ) : Type 0 where
-  pub walked : Walked file at i
-  pub first : xs ≡ part (λ (r : Rule). r .x) (entries file) xs₀ i
-  pub second : ys ≡ part (λ (r : Rule). r .y) (entries file) ys₀ i
-  pub third : zs ≡ part (λ (r : Rule). r .z) (entries file) zs₀ i
-  pub offset : ks ≡ part (λ (r : Rule). r .k) (entries file) ks₀ i
-
-pub filled-none : (file xs ys zs : List ℕ) (ks : List ℤ) → Listed file → Filled file xs ys zs ks xs ys zs ks 4 0
-filled-none file xs ys zs ks l = record { walked = walked-none file l; first = refl; second = refl; third = refl; offset = refl }
-
-module _ {file xs₀ ys₀ zs₀ : List ℕ} {ks₀ : List ℤ} {xs ys zs : List ℕ} {ks : List ℤ} {at i rules : ℕ}
-    (c : Columns xs₀ ys₀ zs₀ ks₀ rules) (n : rules ≡ length (entries file)) (f : Filled file xs₀ ys₀ zs₀ ks₀ xs ys zs ks at i) where
-  abbrev es : List Entry
-  es = entries file
-
-  low : i ≤ length es
-  low = f .walked .low
-
-  pub filled-lengths : (length xs ≡ length xs₀) × (length ys ≡ length ys₀) × (length zs ≡ length zs₀) × (length ks ≡ length ks₀)
-  filled-lengths = (
-    ap length (f .first) ∙ part-length (λ (r : Rule). r .x) es xs₀ i low (omega (arith, c .xlong, low)),
-    ap length (f .second) ∙ part-length (λ (r : Rule). r .y) es ys₀ i low (omega (arith, c .ylong, low)),
-    ap length (f .third) ∙ part-length (λ (r : Rule). r .z) es zs₀ i low (omega (arith, c .zlong, low)),
-    ap length (f .offset) ∙ part-length (λ (r : Rule). r .k) es ks₀ i low (omega (arith, c .klong, low)),
-  )
-
-  pub filled-next : i < rules →
-      Filled file xs₀ ys₀ zs₀ ks₀ (set xs i (ruleAt file at .x)) (set ys i (ruleAt file at .y)) (set zs i (ruleAt file at .z)) (set ks i (ruleAt file at .k)) (at + sizeAt file at) (i + 1)
-  filled-next h =
-      let l : i < length es = omega arith in
-      let b = walked-begins (f .walked) l .here in
-      record {
-        walked = walked-next (f .walked) l;
-        first = ap (λ (x : List ℕ). set x i (ruleAt file at .x)) (f .first) ∙ part-next (λ (r : Rule). r .x) es xs₀ i low b (omega (arith, c .xlong));
-        second = ap (λ (x : List ℕ). set x i (ruleAt file at .y)) (f .second) ∙ part-next (λ (r : Rule). r .y) es ys₀ i low b (omega (arith, c .ylong));
-        third = ap (λ (x : List ℕ). set x i (ruleAt file at .z)) (f .third) ∙ part-next (λ (r : Rule). r .z) es zs₀ i low b (omega (arith, c .zlong));
-        offset = ap (λ (x : List ℤ). set x i (ruleAt file at .k)) (f .offset) ∙ part-next (λ (r : Rule). r .k) es ks₀ i low b (omega (arith, c .klong));
-      }
-
-  pub filled-all : rules ≤ i →
-      (xs ≡ over (λ (r : Rule). r .x) es xs₀) × (ys ≡ over (λ (r : Rule). r .y) es ys₀) × (zs ≡ over (λ (r : Rule). r .z) es zs₀) × (ks ≡ over (λ (r : Rule). r .k) es ks₀)
-  filled-all h = (
-    f .first ∙ part-all (λ (r : Rule). r .x) es xs₀ i low (omega arith),
-    f .second ∙ part-all (λ (r : Rule). r .y) es ys₀ i low (omega arith),
-    f .third ∙ part-all (λ (r : Rule). r .z) es zs₀ i low (omega arith),
-    f .offset ∙ part-all (λ (r : Rule). r .k) es ks₀ i low (omega arith),
-  )
-
 -- a rule's record, by what was read
 module _ (file : List ℕ) (number : ℕ) where
   pub record-none : length (entries file) ≤ number → [] ≡ recordOf file number
   unfolding recordOf stretch
   record-none h = sym (ap (stretch file) (drop-of-length-le (entries file) {i = number} h))
 
-  pub record-refused : {n place : ℕ} → fileReply file ≡ refused n place → [] ≡ recordOf file number
-  record-refused e = record-none (omega (arith, ap length (refused-none file e)))
-
   pub record-here : {at : ℕ} → Begins file number at → take (sizeAt file at) (drop at file) ≡ recordOf file number
   unfolding recordOf stretch
   record-here b = sym (ap (stretch file) (b .here))
+
+  pub place-none : length (entries file) ≤ number → record { at = 0; size = 0 } ≡ placeOf file number
+  unfolding placeOf placeAt
+  place-none h = sym (ap (placeAt file) (drop-of-length-le (entries file) {i = number} h))
+
+  pub place-refused : {n place : ℕ} → fileReply file ≡ refused n place → record { at = 0; size = 0 } ≡ placeOf file number
+  place-refused e = place-none (omega (arith, ap length (refused-none file e)))
+
+  pub place-here : {at : ℕ} → Begins file number at → record { at = at; size = sizeAt file at } ≡ placeOf file number
+  unfolding placeOf placeAt
+  place-here b = sym (ap (placeAt file) (b .here))
+
+  -- the record is that stretch of the file
+  pub record-place : take (placeOf file number .size) (drop (placeOf file number .at) file) ≡ recordOf file number
+  unfolding recordOf stretch placeOf placeAt
+  record-place = go (drop number (entries file))
+    where
+      go : (es : List Entry) → take (placeAt file es .size) (drop (placeAt file es .at) file) ≡ stretch file es
+      go [] = refl
+      go (e ∷ es) = refl
 
 -- the reader, by what examining the file said
 module _ (file : List ℕ) (room : ℕ) where

@@ -10,6 +10,7 @@ use Rattle.maxatom.specs.Book.{minus}
 use Rattle.maxatom.specs.declared.Rule.{Rule}
 use Rattle.derivation.specs.Refusals.{Reply, refused, answer, Check, check, reply, verdict, jobsCheck, jobOutside}
 use Rattle.bookfile.specs.Numbers.{word, long, signed16, signed32}
+use Rattle.bookfile.specs.declared.reading.Stretch.{Stretch}
 
 -- the two-byte marks in ASCII
 abbrev pub BK : ℕ
@@ -115,6 +116,14 @@ entriesOf (answer entries) = entries
 -- the rules of a file, none where it is refused
 abbrev pub entries : List ℕ → List Entry
 entries file = entriesOf (bookReply file)
+
+-- where the first entry's record stands in the file: its first byte and its length; nowhere, and 0 bytes, where there is none
+unfoldable pub placeAt : List ℕ → List Entry → Stretch
+placeAt file [] = record { at = 0; size = 0 }
+placeAt file (e ∷ more) = record { at = e .at; size = sizeAt file (e .at) }
+
+unfoldable pub placeOf : List ℕ → ℕ → Stretch
+placeOf file number = placeAt file (drop number (entries file))
 
 -- the stretch of the first entry's record
 unfoldable pub stretch : List ℕ → List Entry → List ℕ

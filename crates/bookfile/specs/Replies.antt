@@ -2,16 +2,16 @@
 use mathlib.Core.Path.{_≡_}
 use mathlib.Core.Bool.{cond, not}
 use mathlib.Core.List.{List, [], _∷_, _++_, map}
-use Prim.Native.Nat.{ℕ, _+_, _≤_, min}
+use Prim.Native.Nat.{ℕ, _+_, _≤_}
 use lib.Dec.{eqb, leb, ltb}
 use lib.ListN.{length, drop}
 use Rattle.maxatom.specs.declared.Rule.{Rule}
 use Rattle.derivation.specs.Refusals.{Reply, refused, answer, check, reply, verdict, lent}
 use Rattle.bookfile.specs.Numbers.{word}
 use Rattle.bookfile.specs.Reading.{BK, known, sizeAt, ruleAt, headChecks, Entry, rulesOf, bookReply, entries}
-use Rattle.bookfile.specs.declared.reading.Counts.{Counts}
-use Rattle.bookfile.specs.declared.reading.Read.{Read}
-use Rattle.bookfile.specs.declared.reading.Read.the-variants as Read
+use Rattle.derivation.specs.declared.Counts.{Counts}
+use Rattle.derivation.specs.declared.Read.{Read}
+use Rattle.derivation.specs.declared.Read.the-variants as Read
 use Rattle.bookfile.specs.declared.reading.Item.{Item}
 use Rattle.bookfile.specs.declared.reading.Item.the-variants as Item
 
@@ -31,11 +31,6 @@ unfoldable pub itemReply : ℕ → Item → Reply Rule
 itemReply at (Item.Taken r) = answer r
 itemReply at (Item.Refused number) = refused number at
 
--- the reader's answer: the job count and the rule count
-unfoldable pub readOf : Read → Reply Counts
-readOf (Read.Book counts) = answer counts
-readOf (Read.Refused r) = refused (r .number) (r .place)
-
 unfoldable pub counted : ℕ → Reply (List Entry) → Reply Counts
 counted jobs (refused number place) = refused number place
 counted jobs (answer entries) = answer (record { jobs = jobs; rules = length entries })
@@ -53,17 +48,18 @@ fileReply file = counted (word file 2) (bookReply file)
 unfoldable pub readReply : List ℕ → ℕ → Reply Counts
 readReply file room = roomed room (fileReply file)
 
--- a column of the rules, written over the first entries of what was there
+-- a field of each rule, written over the first places of what was there
 unfoldable pub over : {A : Type 0} → (Rule → A) → List Entry → List A → List A
-over field entries column = map (λ (e : Entry). field (e .rule)) entries ++ drop (length entries) column
+over field entries places = map (λ (e : Entry). field (e .rule)) entries ++ drop (length entries) places
 
--- the room of four columns is that of the shortest
-abbrev pub roomOf : ℕ → ℕ → ℕ → ℕ → ℕ
-roomOf xs ys zs ks = min (min xs ys) (min zs ks)
-
--- a column after the reader: nothing lent changes where it is refused
+-- the lent table after the reader: nothing lent changes where it is refused, and places past the last rule are left alone
 unfoldable pub readInto : {A : Type 0} → List ℕ → ℕ → (Rule → A) → List A → List A
-readInto file room field column = lent (readReply file room) column (over field (entries file) column)
+readInto file room field places = lent (readReply file room) places (over field (entries file) places)
+
+-- how many rules the reader writes
+unfoldable pub countOf : Read → ℕ
+countOf (Read.Book counts) = counts .rules
+countOf (Read.Refused r) = 0
 
 -- a file that is not refused
 pub record Listed (file : List ℕ) : Type 0 where

@@ -11,10 +11,9 @@ use Rattle.maxatom.specs.Book.{Each, Accepted}
 use Rattle.maxatom.specs.declared.Rule.{Rule}
 use Rattle.derivation.specs.Refusals.{refused, answer}
 use Rattle.derivation.specs.Examples.{exampleB}
-use Rattle.table.specs.Columns as columns
 use Rattle.bookfile.specs.Reading.{Entry, sizeAt, ruleAt, bookReply, entries, recordOf}
-use Rattle.bookfile.specs.Replies.{fileReply, over}
-use Rattle.bookfile.specs.declared.reading.Counts.{Counts}
+use Rattle.bookfile.specs.Replies.{fileReply}
+use Rattle.derivation.specs.declared.Counts.{Counts}
 use Rattle.bookfile.specs.Writing.{planBytes}
 
 -- one buffer of 16,384 bytes is enough to reach any verdict, and has all rules
@@ -47,14 +46,6 @@ rulesIn file = map (λ (e : Entry). e .rule) (entries file)
 abbrev pub ReadAccepted : Type 0
 ReadAccepted =
     (file : List ℕ) (counts : Counts) → fileReply file ≡ answer counts → Accepted (counts .jobs) (rulesIn file) × (counts .rules ≡ length (rulesIn file))
-
--- the columns that the reader leaves hold the rules of the file
-abbrev pub ReadColumns : Type 0
-ReadColumns =
-    (file xs ys zs : List ℕ) (ks : List ℤ) →
-    columns.rulesOf (over (λ (r : Rule). r .x) (entries file) xs) (over (λ (r : Rule). r .y) (entries file) ys) (over (λ (r : Rule). r .z) (entries file) zs)
-    (over (λ (r : Rule). r .k) (entries file) ks) (length (rulesIn file))
-    ≡ rulesIn file
 
 -- example B's file, 52 bytes, of document 01
 abbrev pub fileB : List ℕ

@@ -4,10 +4,8 @@ use Prim.Native.Nat.{ℕ, _+_, _*_}
 use lib.Dec.{ltb}
 use lib.ListN.{length, take, drop}
 use lib.IntN.{ℤ}
-use Rattle.derivation.specs.Refusals.{Reply, refused, answer, Check, check, verdict, lent, jobsCheck}
+use Rattle.derivation.specs.Refusals.{Check, check, verdict, lent, jobsCheck}
 use Rattle.bookfile.specs.Numbers.{unsigned32, bytesOf}
-use Rattle.bookfile.specs.declared.writing.Written.{Written}
-use Rattle.bookfile.specs.declared.writing.Written.the-variants.{Done, Refused}
 
 -- 8 bytes a job: `PL` in ASCII, the job (16 bits) and its time (32 bits signed)
 unfoldable pub planRecord : ℕ → ℤ → List ℕ
@@ -33,7 +31,3 @@ planned times out at = take at out ++ planBytes times ++ drop (at + length times
 -- the output after the plan writer: nothing lent changes where it is refused
 unfoldable pub planOut : List ℤ → List ℕ → ℕ → List ℕ
 planOut times out at = lent (verdict (planChecks times out at)) out (planned times out at)
-
-unfoldable pub writtenOf : Written → Reply (Unit {0})
-writtenOf Done = answer tt
-writtenOf (Refused r) = refused (r .number) (r .place)

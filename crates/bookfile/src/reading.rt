@@ -1,34 +1,22 @@
 // The reader.
 ghost use mathlib.Core.Path.{_≡_};
-ghost use Prim.Native.Nat.{_+_, _<_, _≤_, min};
+ghost use Prim.Native.Nat.{_+_, _<_, _≤_};
 ghost use lib.ListN.{length};
 ghost use Rattle.derivation.specs.Refusals.{refused, verdict};
-ghost use Rattle.maxatom.specs.declared.Rule.{Rule};
-ghost use Rattle.table.specs.Columns.{Columns};
-ghost use Rattle.table.specs.Replies.{checkedReply};
+ghost use Rattle.derivation.specs.Replies.{outcomeReply, readOf};
 ghost use Rattle.bookfile.specs.Numbers.{word};
-ghost use Rattle.bookfile.specs.Reading.{sizeOf, sizeAt, ruleAt, offsetAt, ruleReply, headChecks, rulesFrom, entries, recordOf};
-ghost use Rattle.bookfile.specs.Replies.{fullFault, markFault, firstFault, itemReply, readOf, counted, fileReply, readReply, roomOf, over, readInto, Listed, Begins};
+ghost use Rattle.bookfile.specs.Reading.{sizeOf, sizeAt, ruleAt, offsetAt, ruleReply, headChecks, rulesFrom, entries, placeOf, recordOf};
+ghost use Rattle.bookfile.specs.Replies.{fullFault, markFault, firstFault, itemReply, counted, fileReply, readReply, countOf, Listed, Begins};
 use crate::bytes::long;
 use crate::bytes::signed16;
 use crate::bytes::signed32;
 use crate::bytes::word;
+use derivation::Counts;
+use derivation::Outcome;
+use derivation::Read;
 use derivation::Refusal;
 use maxatom::Rule;
-use table::Checked;
 use table::fault;
-
-// The job count and the rule count of a book.
-pub struct Counts {
-    pub jobs: usize,
-    pub rules: usize,
-}
-
-// What reading a file says.
-pub enum Read {
-    Book(Counts),
-    Refused(Refusal),
-}
 
 // What reading one record says: its rule, or the number of its refusal.
 pub enum Item {
@@ -86,7 +74,7 @@ fn offset_at(file: &[u8], at: usize) -> i32
 }
 
 // The rule of the record that begins at a byte.
-fn rule_at(file: &[u8], at: usize) -> Rule
+pub fn rule_at(file: &[u8], at: usize) -> Rule
     requires { ⌜ at + sizeAt (now file) at ≤ length (now file) ⌝ }
     ensures { λ r. ⌜ r ≡ ruleAt (now (file .entry)) at ⌝ }
 {
@@ -97,6 +85,14 @@ fn rule_at(file: &[u8], at: usize) -> Rule
         z: word(file, at + 6),
         k: k,
     }
+}
+
+// The byte where the record after it begins.
+pub fn next_record(file: &[u8], at: usize) -> usize
+    requires { ⌜ at + sizeAt (now file) at ≤ length (now file) ⌝ }
+    ensures { λ r. ⌜ r ≡ at + sizeAt (now (file .entry)) at ⌝ }
+{
+    at + size_at(file, at)
 }
 
 // The record that begins at a byte, count rules already read: its checks in order.
@@ -139,18 +135,18 @@ fn first_fault(mark: u16) -> u8
     2
 }
 
-fn refuse(number: u8) -> Checked
-    ensures { λ r. ⌜ checkedReply r ≡ refused number 0 ⌝ }
+fn refuse(number: u8) -> Outcome
+    ensures { λ r. ⌜ outcomeReply r ≡ refused number 0 ⌝ }
 {
-    Checked::Refused(Refusal {
+    Outcome::Refused(Refusal {
         number: number,
         place: 0,
     })
 }
 
 // The first record: its checks in order.
-fn check_head(file: &[u8]) -> Checked
-    ensures { λ r. ⌜ checkedReply r ≡ verdict (headChecks (now (file .entry))) ⌝ }
+fn check_head(file: &[u8]) -> Outcome
+    ensures { λ r. ⌜ outcomeReply r ≡ verdict (headChecks (now (file .entry))) ⌝ }
 {
     if file.len() < 2 {
         return refuse(1);
@@ -169,7 +165,7 @@ fn check_head(file: &[u8]) -> Checked
     if 256 < n {
         return refuse(4);
     }
-    Checked::Accepted
+    Outcome::Done
 }
 
 // The records of rules, from byte 4 to the end of the file: their number, or the first refusal.
@@ -204,8 +200,8 @@ pub fn examine(file: &[u8]) -> Read
     ensures { λ r. ⌜ readOf r ≡ fileReply (now (file .entry)) ⌝ }
 {
     match check_head(file) {
-        Checked::Refused(r) => Read::Refused(r),
-        Checked::Accepted => {
+        Outcome::Refused(r) => Read::Refused(r),
+        Outcome::Done => {
             let jobs = word(file, 2) as usize;
             scan(file, jobs)
         }
@@ -227,82 +223,65 @@ fn begin(file: &[u8], number: usize) -> usize
     at
 }
 
-// The record of a rule, by the rule's number; empty if the file is refused or holds no such rule.
+// A stretch of a file: its first byte, and how many there are.
+pub struct Stretch {
+    pub at: usize,
+    pub size: usize,
+}
+
+// The record of a rule, by the rule's number, as a stretch of the file: empty if the file is refused or holds no such rule.
+pub fn stretch_of(file: &[u8], number: usize) -> Stretch
+    ensures { λ r. ⌜ (r ≡ placeOf (now (file .entry)) number) × (r .at + r .size ≤ length (now (file .entry))) ⌝ }
+{
+    match examine(file) {
+        Read::Refused(_) => Stretch { at: 0, size: 0 },
+        Read::Book(c) => {
+            if c.rules <= number {
+                return Stretch { at: 0, size: 0 };
+            }
+            let at = begin(file, number);
+            Stretch {
+                at: at,
+                size: size_at(file, at),
+            }
+        }
+    }
+}
+
+// The record of a rule, handed back as that stretch of the lent file.
 pub fn record(file: &[u8], number: usize) -> &[u8]
     ensures { λ r. ⌜ now r ≡ recordOf (now (file .entry)) number ⌝ }
 {
-    match examine(file) {
-        Read::Refused(_) => {
-            return &file[0..0];
-        }
-        Read::Book(c) => {
-            if c.rules <= number {
-                return &file[0..0];
-            }
-            let a = begin(file, number);
-            let e = a + size_at(file, a);
-            &file[a..e]
-        }
-    }
+    let s = stretch_of(file, number);
+    let a = s.at;
+    let e = a + s.size;
+    &file[a..e]
 }
 
-// The rules of a file that was examined, written into the columns.
-fn fill(file: &[u8], rules: usize, xs: &mut [u16], ys: &mut [u16], zs: &mut [u16], ks: &mut [i32])
-    requires { ⌜ Listed (now file) ⌝ }
-    requires { ⌜ rules ≡ length (entries (now file)) ⌝ }
-    requires { ⌜ Columns (now xs) (now ys) (now zs) (now ks) rules ⌝ }
-    ensures first { λ _. ⌜ now (xs .exit) ≡ over (λ (q : Rule). q .x) (entries (now (file .entry))) (now (xs .entry)) ⌝ }
-    ensures second { λ _. ⌜ now (ys .exit) ≡ over (λ (q : Rule). q .y) (entries (now (file .entry))) (now (ys .entry)) ⌝ }
-    ensures third { λ _. ⌜ now (zs .exit) ≡ over (λ (q : Rule). q .z) (entries (now (file .entry))) (now (zs .entry)) ⌝ }
-    ensures offset { λ _. ⌜ now (ks .exit) ≡ over (λ (q : Rule). q .k) (entries (now (file .entry))) (now (ks .entry)) ⌝ }
-{
-    let mut at = 4;
-    let mut i = 0;
-    while i < rules {
-        let r = rule_at(file, at);
-        let k = r.k;
-        xs[i] = r.x;
-        ys[i] = r.y;
-        zs[i] = r.z;
-        ks[i] = k;
-        at += size_at(file, at);
-        i += 1;
-    }
-}
-
-fn least(a: usize, b: usize) -> usize
-    ensures { λ r. ⌜ r ≡ min a b ⌝ }
-{
-    if a < b { a } else { b }
-}
-
-// The reader: the job count and the rule count, with the rules in the columns; or the refusal, with nothing written.
-pub fn read_book(
-    file: &[u8],
-    xs: &mut [u16],
-    ys: &mut [u16],
-    zs: &mut [u16],
-    ks: &mut [i32],
-) -> Read
-    ensures said { λ r. ⌜ readOf r ≡ readReply (now (file .entry)) (roomOf (length (now (xs .entry))) (length (now (ys .entry))) (length (now (zs .entry))) (length (now (ks .entry)))) ⌝ }
-    ensures first { λ _. ⌜ now (xs .exit) ≡ readInto (now (file .entry)) (roomOf (length (now (xs .entry))) (length (now (ys .entry))) (length (now (zs .entry))) (length (now (ks .entry)))) (λ (q : Rule). q .x) (now (xs .entry)) ⌝ }
-    ensures second { λ _. ⌜ now (ys .exit) ≡ readInto (now (file .entry)) (roomOf (length (now (xs .entry))) (length (now (ys .entry))) (length (now (zs .entry))) (length (now (ks .entry)))) (λ (q : Rule). q .y) (now (ys .entry)) ⌝ }
-    ensures third { λ _. ⌜ now (zs .exit) ≡ readInto (now (file .entry)) (roomOf (length (now (xs .entry))) (length (now (ys .entry))) (length (now (zs .entry))) (length (now (ks .entry)))) (λ (q : Rule). q .z) (now (zs .entry)) ⌝ }
-    ensures offset { λ _. ⌜ now (ks .exit) ≡ readInto (now (file .entry)) (roomOf (length (now (xs .entry))) (length (now (ys .entry))) (length (now (zs .entry))) (length (now (ks .entry)))) (λ (q : Rule). q .k) (now (ks .entry)) ⌝ }
+// The reader's answer, for a table of `room` places: 21 after the file's own refusals.
+pub fn read_within(file: &[u8], room: usize) -> Read
+    ensures { λ r. ⌜ readOf r ≡ readReply (now (file .entry)) room ⌝ }
 {
     match examine(file) {
         Read::Refused(r) => Read::Refused(r),
         Read::Book(c) => {
-            let n = c.rules;
-            let room = least(least(xs.len(), ys.len()), least(zs.len(), ks.len()));
-            if room < n {
+            if room < c.rules {
                 return Read::Refused(Refusal {
                     number: 21,
                     place: 0,
                 });
             }
-            fill(file, n, xs, ys, zs, ks);
             Read::Book(c)
         }
+    }
+}
+
+// How many rules are to be written: none where the file is refused.
+pub fn count_of(r: Read) -> usize
+    ensures { λ n. ⌜ n ≡ countOf r ⌝ }
+{
+    match r {
+        Read::Refused(_) => 0,
+        Read::Book(c) => c.rules,
     }
 }

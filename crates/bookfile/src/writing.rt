@@ -4,15 +4,11 @@ ghost use mathlib.Core.List.{_++_};
 ghost use Prim.Native.Nat.{_+_, _*_, _≤_};
 ghost use lib.ListN.{length, drop};
 ghost use Rattle.derivation.specs.Refusals.{verdict};
+ghost use Rattle.derivation.specs.Replies.{outcomeReply};
 ghost use Rattle.bookfile.specs.Numbers.{unsigned32};
-ghost use Rattle.bookfile.specs.Writing.{planRecord, planChecks, planned, planOut, writtenOf};
+ghost use Rattle.bookfile.specs.Writing.{planRecord, planChecks, planned, planOut};
+use derivation::Outcome;
 use derivation::Refusal;
-
-// What writing a plan says.
-pub enum Written {
-    Done,
-    Refused(Refusal),
-}
 
 // The 32 bits of a number with sign.
 fn unsigned32(t: i32) -> u32
@@ -58,18 +54,18 @@ fn write_records(times: &[i32], out: &mut [u8], at: usize)
     }
 }
 
-fn refuse(number: u8) -> Written
-    ensures { λ r. ⌜ r ≡ Written.Refused (record { number = number; place = 0 }) ⌝ }
+fn refuse(number: u8) -> Outcome
+    ensures { λ r. ⌜ r ≡ Outcome.Refused (record { number = number; place = 0 }) ⌝ }
 {
-    Written::Refused(Refusal {
+    Outcome::Refused(Refusal {
         number: number,
         place: 0,
     })
 }
 
 // The plan writer: 8 bytes a job, from a byte of the output on; or the refusal, with nothing written.
-pub fn write_plan(times: &[i32], out: &mut [u8], at: usize) -> Written
-    ensures said { λ r. ⌜ writtenOf r ≡ verdict (planChecks (now (times .entry)) (now (out .entry)) at) ⌝ }
+pub fn write_plan(times: &[i32], out: &mut [u8], at: usize) -> Outcome
+    ensures said { λ r. ⌜ outcomeReply r ≡ verdict (planChecks (now (times .entry)) (now (out .entry)) at) ⌝ }
     ensures left { λ r. ⌜ now (out .exit) ≡ planOut (now (times .entry)) (now (out .entry)) at ⌝ }
 {
     let n = times.len();
@@ -86,5 +82,5 @@ pub fn write_plan(times: &[i32], out: &mut [u8], at: usize) -> Written
         return refuse(21);
     }
     write_records(times, out, at);
-    Written::Done
+    Outcome::Done
 }

@@ -1,11 +1,11 @@
 // The examples and the limits of the scope, at run time through the planner's public calls, one line a case.
 use planner::Class;
 use planner::FirstViolated;
+use planner::Outcome;
 use planner::Read;
 use planner::Refusal;
 use planner::Rule;
 use planner::Solved;
-use planner::Stepped;
 use planner::Tally;
 use planner::Tightness;
 use planner::class_of;
@@ -109,12 +109,12 @@ fn say_tightness(said: Tightness) {
     }
 }
 
-fn say_stepped(said: Stepped) {
+fn say_stepped(said: Outcome) {
     match said {
-        Stepped::Done => {
+        Outcome::Done => {
             io::write_all(1, b" STEPPED");
         }
-        Stepped::Refused(r) => {
+        Outcome::Refused(r) => {
             say_refusal(r);
         }
     }

@@ -43,10 +43,10 @@ pub record Shown (jobs : ℕ) (rules : List Rule) (e : Entry) : Type 0 where
 module _ {jobs : ℕ} {rules : List Rule} (a : Accepted jobs rules) where
   -- a step from a reached state
   module _ {state : State} (d : Reached jobs rules state) (number : ℕ) (h : number < length rules)
-      (above : belowFloor (floor rules) (state .times) ≡ false) (broken : satisfied (ruleAt rules number) (state .times) ≡ false) where
+      (above : belowFloor (floor rules) (state .times) ≡ false) (violated : satisfied (ruleAt rules number) (state .times) ≡ false) where
     left-lower : leftSide (ruleAt rules number) (state .times) <ℤ timeAt (state .times) (ruleAt rules number .z)
     unfolding satisfied
-    left-lower = le-false _ _ broken
+    left-lower = le-false _ _ violated
 
     pub reached-step : Reached jobs rules (stepOn (ruleAt rules number) state)
     unfolding stepOn
@@ -97,15 +97,15 @@ module _ {jobs : ℕ} {rules : List Rule} (a : Accepted jobs rules) where
   unfolding stepped accepts tookOff stepOn
   entry state number d called (no-rule h) = stays state number 24 d (λ due. omega (arith, due .of-book)) (inl refl)
   entry state number d called (too-low h low) = stays state number 25 d (λ due. clash low (due .above)) (inr (inl refl))
-  entry state number d called (kept h above sat) = stays state number 26 d (λ due. clash sat (due .broken)) (inr (inr refl))
-  entry state number d called (steps h above broken) =
+  entry state number d called (kept h above sat) = stays state number 26 d (λ due. clash sat (due .violated)) (inr (inr refl))
+  entry state number d called (steps h above violated) =
       record {
-        exactly = ((λ e. record { of-book = h; broken = broken; above = above }), (λ due. refl));
-        lowered = λ e. lowers d number h above broken;
+        exactly = ((λ e. record { of-book = h; violated = violated; above = above }), (λ due. refl));
+        lowered = λ e. lowers d number h above violated;
         others = λ e. clash refl e;
         steps-on = refl;
-        minutes-on = rw (allowed d number h above broken);
-        reached = reached-step d number h above broken;
+        minutes-on = rw (allowed d number h above violated);
+        reached = reached-step d number h above violated;
       }
 
 -- what is shown of a list of calls
@@ -171,7 +171,7 @@ module _ {jobs : ℕ} {rules : List Rule} (a : Accepted jobs rules) {state : Sta
   pub with-none : (((plan : List ℤ) × Plan jobs rules plan) → ⊥) → WithNone jobs rules (state .times) (state .tally .steps)
   with-none none =
       record {
-        broken = ⊎-elim (λ w. w) (λ sat. absurd (none (state .times, is-plan sat))) (search-violated rules (state .times));
+        violated = ⊎-elim (λ w. w) (λ sat. absurd (none (state .times, is-plan sat))) (search-violated rules (state .times));
         bound = omega (arith, longest (set-of a) d, room-zero jobs rules);
         at-bound = λ e. by-test-not _ (λ above.
             omega (arith, longest-high (set-of a) d (test-high (floor rules) (state .times) (floor-low a) above), room-zero jobs rules));

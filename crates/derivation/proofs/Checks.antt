@@ -14,7 +14,7 @@ use Rattle.maxatom.specs.Book.{Each, InBook, Accepted, minus}
 use Rattle.maxatom.specs.declared.Rule.{Rule}
 use Rattle.maxatom.proofs.Choose.{cond-yes, cond-no, clash}
 use Rattle.maxatom.proofs.Integers.{up, dn, le-read, le-make, lt-false, false-lt, abs-parts, minus-parts, one-part}
-use Rattle.derivation.specs.Refusals.{Reply, refused, answer, accepts, Check, reply, tableChecks, timesChecks, jobsCheck, countCheck, ruleChecks, jobOutside, offsetOutside}
+use Rattle.derivation.specs.Refusals.{Reply, refused, answer, accepts, Check, reply, verdict, tableChecks, timesChecks, jobsCheck, countCheck, ruleChecks, jobOutside, offsetOutside}
 
 answer-not : {A : Type 0} {a : A} {number place : ℕ} → answer a ≡ refused number place → ⊥
 answer-not e = let z : _≡_ {A = ℕ} 0 1 = cc in omega arith
@@ -39,7 +39,7 @@ neither true q e = clash refl e
 neither false q e = (refl, e)
 
 -- a rule's two checks pass exactly for a rule of the book
-rule-passes : (jobs : ℕ) (r : Rule) → InBook jobs r → (jobOutside jobs r ≡ false) × (offsetOutside r ≡ false)
+pub rule-passes : (jobs : ℕ) (r : Rule) → InBook jobs r → (jobOutside jobs r ≡ false) × (offsetOutside r ≡ false)
 unfolding jobOutside offsetOutside
 rule-passes jobs r b = (
   rw (lt-leb jobs (r .x) (b .first), lt-leb jobs (r .y) (b .second), lt-leb jobs (r .z) (b .third)),
@@ -49,7 +49,7 @@ rule-passes jobs r b = (
   ),
 )
 
-rule-in : (jobs : ℕ) (r : Rule) → jobOutside jobs r ≡ false → offsetOutside r ≡ false → InBook jobs r
+pub rule-in : (jobs : ℕ) (r : Rule) → jobOutside jobs r ≡ false → offsetOutside r ≡ false → InBook jobs r
 unfolding jobOutside offsetOutside
 rule-in jobs r j k =
     let (x, yz) = neither (leb jobs (r .x)) (leb jobs (r .y) || leb jobs (r .z)) j in
@@ -107,6 +107,17 @@ pub accepting : {A : Type 0} (checks : List Check) (a : A) → Each (λ c. c .fa
 unfolding reply
 accepting [] a e = refl
 accepting (c ∷ checks) a e = cond-no _ _ (e .0) ∙ accepting checks a (e .1)
+
+-- two answers under the same checks, which are the same where nothing is refused
+pub same-where : {A : Type 0} (checks : List Check) (a b : A) → (verdict checks ≡ answer tt → a ≡ b) → reply checks a ≡ reply checks b
+unfolding reply
+same-where [] a b h = ap answer (h refl)
+same-where {A = A} (c ∷ checks) a b h = go (c .fails) h (λ k. same-where checks a b k)
+  where
+    go : (t : Bool) → (cond t (refused (c .number) (c .place)) (verdict checks) ≡ answer tt → a ≡ b) → ((verdict checks ≡ answer tt → a ≡ b) → reply checks a ≡ reply checks b) →
+        cond t (refused (c .number) (c .place)) (reply checks a) ≡ cond t (refused (c .number) (c .place)) (reply checks b)
+    go true k f = refl
+    go false k f = f k
 
 -- 4, 5, 6 and 7 leave over just the accepted books
 pub accepted-iff : {A : Type 0} (a : A) (jobs : ℕ) (rules : List Rule) → Accepted jobs rules ↔ (accepts (reply (tableChecks jobs rules) a) ≡ true)

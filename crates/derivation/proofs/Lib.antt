@@ -4,4 +4,5 @@ pub mod AnyOrder
 pub mod Passes
 pub mod Walks
 pub mod Exact
+pub mod RunCalls
 pub mod Stars

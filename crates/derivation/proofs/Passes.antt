@@ -44,7 +44,7 @@ module _ {jobs : ℕ} {rules : List Rule} (a : Accepted jobs rules) where
   after-step (no-rule h) i b s = absurd (omega arith)
   after-step (too-low h low) i b s = clash low b
   after-step (kept h above sat) i b s = clash sat s
-  after-step (steps h above broken) i b s = refl
+  after-step (steps h above violated) i b s = refl
 
   after-stay : {state : State} {number : ℕ} {called : Called} → View a state number called →
       (number < length rules → belowFloor (floor rules) (state .times) ≡ false → satisfied (ruleAt rules number) (state .times) ≡ false → ⊥) →
@@ -52,7 +52,7 @@ module _ {jobs : ℕ} {rules : List Rule} (a : Accepted jobs rules) where
   after-stay (no-rule h) n = refl
   after-stay (too-low h low) n = refl
   after-stay (kept h above sat) n = refl
-  after-stay (steps h above broken) n = absurd (n h above broken)
+  after-stay (steps h above violated) n = absurd (n h above violated)
 
   -- a state from which no call steps stays
   stay : (state : State) → Reached jobs rules state →
@@ -64,15 +64,15 @@ module _ {jobs : ℕ} {rules : List Rule} (a : Accepted jobs rules) where
       ap (λ (s : State). runOn jobs rules s calls) (after-stay (view a state number d) (n number)) ∙ stay state d n calls
 
   pub stay-low : (state : State) → Reached jobs rules state → belowFloor (floor rules) (state .times) ≡ true → (calls : List ℕ) → runOn jobs rules state calls ≡ state
-  stay-low state d low calls = stay state d (λ number h above broken. clash low above) calls
+  stay-low state d low calls = stay state d (λ number h above violated. clash low above) calls
 
   pub stay-kept : (state : State) → Reached jobs rules state → AllSatisfied rules (state .times) → (calls : List ℕ) → runOn jobs rules state calls ≡ state
   stay-kept state d sat calls =
-      stay state d (λ number h above broken. clash (each-at (λ r. satisfied r (state .times) ≡ true) rules number h sat) broken) calls
+      stay state d (λ number h above violated. clash (each-at (λ r. satisfied r (state .times) ≡ true) rules number h sat) violated) calls
 
   -- what a step does to the floor test
   module _ {state : State} (d : Reached jobs rules state) (number : ℕ) (h : number < length rules)
-      (above : belowFloor (floor rules) (state .times) ≡ false) (broken : satisfied (ruleAt rules number) (state .times) ≡ false) where
+      (above : belowFloor (floor rules) (state .times) ≡ false) (violated : satisfied (ruleAt rules number) (state .times) ≡ false) where
     pub stays-above : ltZ (leftSide (ruleAt rules number) (state .times)) (floor rules) ≡ false →
         belowFloor (floor rules) (stepOn (ruleAt rules number) state .times) ≡ false
     unfolding stepOn
@@ -86,7 +86,7 @@ module _ {jobs : ℕ} {rules : List Rule} (a : Accepted jobs rules) where
         by-test-not _
         (λ q. let r = ruleAt rules number in
         let fall : leftSide r (state .times) <ℤ floor rules = lt-true e in
-        omega (arith, lt-read fall, le-read (rw (allowed a d number h above broken) at (test-high (floor rules) (stepOn r state .times) (floor-low a) q (r .z)))))
+        omega (arith, lt-read fall, le-read (rw (allowed a d number h above violated) at (test-high (floor rules) (stepOn r state .times) (floor-low a) q (r .z)))))
 
 head-of : {r s : Rule} {xs ys : List Rule} → _≡_ {A = List Rule} (r ∷ xs) (s ∷ ys) → (r ≡ s) × (xs ≡ ys)
 head-of e = (cc, cc)
@@ -152,7 +152,7 @@ module _ {jobs : ℕ} {rules : List Rule} (a : Accepted jobs rules) where
           (cond b (pass (floor rules) rest (state .times) (state .tally .steps)) (cond c fallen-run (pass (floor rules) rest lowered (state .tally .steps + 1))))
       go true c p q h at on =
           let ih = on state d above in
-          let same = after-stay a (view a state i d) (λ _ _ broken. clash (rw at p) broken) in
+          let same = after-stay a (view a state i d) (λ _ _ violated. clash (rw at p) violated) in
           record {
             times-is = ap (λ (s : State). runOn jobs rules s next .times) same ∙ ih .times-is;
             steps-is = ap (λ (s : State). runOn jobs rules s next .tally .steps) same ∙ ih .steps-is;
@@ -163,12 +163,12 @@ module _ {jobs : ℕ} {rules : List Rule} (a : Accepted jobs rules) where
             fell-at = ih .fell-at;
           }
       go false true p q h at on =
-          let broken : satisfied (ruleAt rules i) (state .times) ≡ false = rw at p in
-          let down : Reached jobs rules (stepOn r state) = rw at at (reached-step a d i h above broken) in
-          let low : belowFloor (floor rules) (stepOn r state .times) ≡ true = rw at at (falls-below a d i h above broken (rw at q)) in
-          let same : stepCall jobs rules state i .after ≡ stepOn r state = rw at at (after-step a (view a state i d) h above broken) in
+          let violated : satisfied (ruleAt rules i) (state .times) ≡ false = rw at p in
+          let down : Reached jobs rules (stepOn r state) = rw at at (reached-step a d i h above violated) in
+          let low : belowFloor (floor rules) (stepOn r state .times) ≡ true = rw at at (falls-below a d i h above violated (rw at q)) in
+          let same : stepCall jobs rules state i .after ≡ stepOn r state = rw at at (after-step a (view a state i d) h above violated) in
           let end : runOn jobs rules state (i ∷ next) ≡ stepOn r state = ap (λ (s : State). runOn jobs rules s next) same ∙ stay-low a (stepOn r state) down low next in
-          let left : timeAt (stepOn r state .times) (r .z) ≡ leftSide r (state .times) = rw at at (allowed a d i h above broken) in
+          let left : timeAt (stepOn r state .times) (r .z) ≡ leftSide r (state .times) = rw at at (allowed a d i h above violated) in
           record {
             times-is = ap (λ (s : State). s .times) end;
             steps-is = ap (λ (s : State). s .tally .steps) end;
@@ -180,10 +180,10 @@ module _ {jobs : ℕ} {rules : List Rule} (a : Accepted jobs rules) where
                 ((rw at at (each-at (InBook jobs) rules i h (a .rules-in) .third)), rw left (lt-true q));
           }
       go false false p q h at on =
-          let broken : satisfied (ruleAt rules i) (state .times) ≡ false = rw at p in
-          let down : Reached jobs rules (stepOn r state) = rw at at (reached-step a d i h above broken) in
-          let same : stepCall jobs rules state i .after ≡ stepOn r state = rw at at (after-step a (view a state i d) h above broken) in
-          let ih = on (stepOn r state) down (rw at at (stays-above a d i h above broken (rw at q))) in
+          let violated : satisfied (ruleAt rules i) (state .times) ≡ false = rw at p in
+          let down : Reached jobs rules (stepOn r state) = rw at at (reached-step a d i h above violated) in
+          let same : stepCall jobs rules state i .after ≡ stepOn r state = rw at at (after-step a (view a state i d) h above violated) in
+          let ih = on (stepOn r state) down (rw at at (stays-above a d i h above violated (rw at q))) in
           record {
             times-is = ap (λ (s : State). runOn jobs rules s next .times) same ∙ ih .times-is;
             steps-is = ap (λ (s : State). runOn jobs rules s next .tally .steps) same ∙ ih .steps-is;

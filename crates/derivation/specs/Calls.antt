@@ -10,21 +10,21 @@ use Rattle.derivation.specs.Refusals.{Reply, reply, verdict, lent, jobsC
 use Rattle.derivation.specs.Step.{ruleAt}
 use Rattle.derivation.specs.Run.{End, Run, solve}
 
--- all rules are kept, or the first broken one
-pub data Kept : Type 0 where
-  all : Kept
-  broken : ℕ → Kept
+-- kept test: every rule is satisfied (kept), or the number of the first violated (broken) one
+pub data ModelCheck : Type 0 where
+  satisfies : ModelCheck
+  violates : ℕ → ModelCheck
 
--- the first broken rule of `rules`, whose first is number `at`
-unfoldable pub firstViolated : ℕ → List Rule → List ℤ → Kept
-firstViolated at [] times = all
+-- the first violated rule of `rules`, whose first is number `at`
+unfoldable pub firstViolated : ℕ → List Rule → List ℤ → ModelCheck
+firstViolated at [] times = satisfies
 firstViolated at (r ∷ rules) times =
     let rest = firstViolated (at + 1) rules times in
-    cond (satisfied r times) rest (broken at)
+    cond (satisfied r times) rest (violates at)
 
 -- kept test
-unfoldable pub keptCall : ℕ → List Rule → List ℤ → Reply Kept
-keptCall jobs rules times = reply (timesChecks jobs rules times) (firstViolated 0 rules times)
+unfoldable pub modelCheckCall : ℕ → List Rule → List ℤ → Reply ModelCheck
+modelCheckCall jobs rules times = reply (timesChecks jobs rules times) (firstViolated 0 rules times)
 
 -- tight test
 unfoldable pub tightCall : ℕ → List Rule → List ℤ → ℕ → Reply Bool

@@ -18,7 +18,7 @@ use Rattle.derivation.specs.Run.{Run, planned, fell, unfinished, passBou
 -- Demand 3. "which calls stepped": it named a rule of the book, broken just then, while no job stood below the floor
 pub record Due (rules : List Rule) (e : Entry) : Type 0 where
   pub of-book : e .asked < length rules
-  pub broken : satisfied (ruleAt rules (e .asked)) (e .before .times) ≡ false
+  pub violated : satisfied (ruleAt rules (e .asked)) (e .before .times) ≡ false
   pub above : belowFloor (floor rules) (e .before .times) ≡ false
 
 -- "lowered the rule's third job, and no other, to what the rule allows"
@@ -43,7 +43,7 @@ pub record WithPlan (jobs : ℕ) (rules : List Rule) (plan times : List ℤ) (st
 
 -- "If none exists"
 pub record WithNone (jobs : ℕ) (rules : List Rule) (times : List ℤ) (steps : ℕ) : Type 0 where
-  pub broken : (number : ℕ) × (number < length rules) × (satisfied (ruleAt rules number) times ≡ false)
+  pub violated : (number : ℕ) × (number < length rules) × (satisfied (ruleAt rules number) times ≡ false)
   pub bound : steps ≤ jobs * total rules + 1
   pub at-bound : steps ≡ jobs * total rules + 1 → belowFloor (floor rules) times ≡ true
 

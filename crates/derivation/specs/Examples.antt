@@ -24,7 +24,7 @@ pub data Claim : Type 0 where
   classIs : ℕ → Class → Claim
   tightIs : ℕ → List ℤ → Bool → Claim
   stepLeaves : State → ℕ → State → Claim
-  keptIs : ℕ → List ℤ → Bool → Claim
+  satisfiedIs : ℕ → List ℤ → Bool → Claim
 
 pub record Example : Type 0 where
   pub jobs : ℕ
@@ -59,7 +59,7 @@ stars =
     ∷ record {
       jobs = 2;
       rules = rule 0 1 (minus 1) 0 ∷ rule 0 0 (minus 3) 1 ∷ [];
-      claims = stepLeaves (state (pos 0 ∷ minus 3 ∷ []) 1 3) 0 (state (minus 1 ∷ minus 3 ∷ []) 2 4) ∷ keptIs 0 (minus 1 ∷ minus 3 ∷ []) false ∷ [];
+      claims = stepLeaves (state (pos 0 ∷ minus 3 ∷ []) 1 3) 0 (state (minus 1 ∷ minus 3 ∷ []) 2 4) ∷ satisfiedIs 0 (minus 1 ∷ minus 3 ∷ []) false ∷ [];
     }
     ∷ []
 
@@ -104,7 +104,7 @@ holds jobs rules (stepLeaves before number after) =
     let called = stepCall jobs rules before number in
     accepts (called .said) && sameTimes (called .after .times) (after .times)
     && eqb (called .after .tally .steps) (after .tally .steps) && eqb (called .after .tally .minutes) (after .tally .minutes)
-holds jobs rules (keptIs number times b) = Bool·beq (satisfied (ruleAt rules number) times) b
+holds jobs rules (satisfiedIs number times b) = Bool·beq (satisfied (ruleAt rules number) times) b
 
 unfoldable pub allHold : ℕ → List Rule → List Claim → Bool
 allHold jobs rules [] = true

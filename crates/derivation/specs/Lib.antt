@@ -3,5 +3,6 @@ pub mod Step
 pub mod Play
 pub mod Run
 pub mod Calls
+pub mod Replies
 pub mod Demands
 pub mod Examples

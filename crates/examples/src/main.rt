@@ -1,8 +1,9 @@
 // The examples of the scope, at run time: the report of each book; the hand steps of example L; and the records of B by number.
-use bookfile::reading::record;
-use derivation::Tally;
+use planner::FirstViolated;
+use planner::Rule;
+use planner::Tally;
+use planner::record;
 use report::report;
-use solver::FirstViolated;
 
 // The text of a book's file.
 fn show(file: &[u8]) {
@@ -60,7 +61,7 @@ fn show_board(first: i32, second: i32, tally: Tally) {
     io::write_all(1, b"\n");
 }
 
-fn show_broken(r: FirstViolated) {
+fn show_violated(r: FirstViolated) {
     match r {
         FirstViolated::Nothing => {
             io::write_all(1, b"KEPT\n");
@@ -76,23 +77,32 @@ fn show_broken(r: FirstViolated) {
     }
 }
 
-// Example L: from a fresh board a hand step on rule 1, then on rule 0, which stays broken.
+// Example L: from a fresh board a hand step on rule 1, then on rule 0, which stays violated.
 fn hand_steps() {
-    let xs: [u16; 2] = [0, 0];
-    let ys: [u16; 2] = [1, 0];
-    let zs: [u16; 2] = [0, 1];
-    let ks: [i32; 2] = [-1, -3];
+    let mut table = lent::no_rules();
+    table[0] = Rule {
+        x: 0,
+        y: 1,
+        z: 0,
+        k: -1,
+    };
+    table[1] = Rule {
+        x: 0,
+        y: 0,
+        z: 1,
+        k: -3,
+    };
     let mut times: [i32; 2] = [0, 0];
     let fresh = Tally {
         steps: 0,
         minutes: 0,
     };
-    let one = solver::step(2, &xs, &ys, &zs, &ks, 2, &mut times, fresh, 1);
+    let one = lent::step(2, table, 2, &mut times, fresh, 1);
     let after_one = one.tally;
     show_board(times[0], times[1], after_one);
-    let two = solver::step(2, &xs, &ys, &zs, &ks, 2, &mut times, after_one, 0);
+    let two = lent::step(2, table, 2, &mut times, after_one, 0);
     show_board(times[0], times[1], two.tally);
-    show_broken(solver::first_violated(2, &xs, &ys, &zs, &ks, 2, &times));
+    show_violated(lent::first_violated(2, table, 2, &times));
 }
 
 fn main() {

@@ -27,8 +27,8 @@ use Rattle.maxatom.proofs.Lines.{jump-along, jump-ends}
 use Rattle.maxatom.proofs.Parts.{forget}
 use Rattle.table.specs.Columns.{ruleOf, rulesFrom, rulesOf}
 use Rattle.table.proofs.Rows.{rows-next, rows-end, rows-length, rows-at}
-use Rattle.solver.specs.Replies.{Named, NamedAll}
-use Rattle.jump.specs.Leaps.{oneArm, Steppable, BothKept, by-first, by-second, BothLow, Locked, Rounded, Walked, Sized, Spread, Dropped, Passed, Leapt}
+use Rattle.solver.specs.Rules.{Named, NamedAll}
+use Rattle.jump.specs.Leaps.{oneArm, Steppable, BothSatisfied, by-first, by-second, BothLow, Locked, Rounded, Walked, Sized, Spread, Dropped, Passed, Leapt}
 
 -- between two numbers of 32 bits
 pub fits-between : {f z t : ℤ} → SFits w32 f → SFits w32 t → f ≤ℤ z → z ≤ℤ t → SFits w32 z
@@ -94,7 +94,7 @@ arm-kept r job b t =
     ≤ℤ-trans (rw (left-same (oneArm job r) b) at (keeps (oneArm job r) b t)) (add-mono (maxZ v v) v (r .k) (max-under v v v (le-make (omega arith)) (le-make (omega arith))))
 
 module _ (r : Rule) (near far : List ℤ) where
-  same-keeper : BothKept r near far → SameKeeper near far (clauseOf r)
+  same-keeper : BothSatisfied r near far → SameKeeper near far (clauseOf r)
   same-keeper (by-first n m) = record { arm = record { job = r .x; offset = r .k }; among = here; near-kept = arm-kept r (r .x) near n; far-kept = arm-kept r (r .x) far m }
   same-keeper (by-second n m) = record { arm = record { job = r .y; offset = r .k }; among = there here; near-kept = arm-kept r (r .y) near n; far-kept = arm-kept r (r .y) far m }
 
@@ -171,7 +171,7 @@ module _ {xs ys zs : List ℕ} {ks : List ℤ} {count : ℕ} {f : ℤ} {near₀ 
   abbrev rule : Rule
   rule = ruleOf xs ys zs ks i
 
-  pub locking-kept : i < count → BothKept rule near far → Locking xs ys zs ks count f near₀ far₀ near far s (i + 1)
+  pub locking-kept : i < count → BothSatisfied rule near far → Locking xs ys zs ks count f near₀ far₀ near far s (i + 1)
   locking-kept h b =
       record {
         near-size = g .near-size;

@@ -8,7 +8,7 @@ use lib.ListN.{length, set}
 use lib.Seq.{getD-set-same, getD-set-other}
 use lib.IntN.{ℤ, pos}
 use Rattle.maxatom.specs.Book.{Each}
-use Rattle.maxatom.specs.Class.{idle}
+use Rattle.maxatom.specs.Class.{tautology}
 use Rattle.maxatom.specs.Clauses.{Clause, clauseOf, clausesOf}
 use Rattle.maxatom.specs.Jumps.{Walk, keep, lower, Passing, start, round}
 use Rattle.maxatom.specs.declared.Rule.{Rule}
@@ -19,35 +19,8 @@ use Rattle.derivation.specs.Step.{ruleAt}
 use Rattle.derivation.proofs.AnyOrder.{each-at}
 use Rattle.table.specs.Columns.{ruleOf, rulesFrom, rulesOf, Columns}
 use Rattle.table.proofs.Rows.{rows-next, rows-end}
-use Rattle.solver.specs.Replies.{Named, NamedAll}
+use Rattle.solver.specs.Rules.{Named, NamedAll}
 use Rattle.jump.specs.Leaps.{proper, Passed}
-
--- a rule stored at the place after the others
-module _ (r : Rule) (xs ys zs : List ℕ) (ks : List ℤ) (at : ℕ) (c : Columns xs ys zs ks (at + 1)) where
-  stored-from : (from n : ℕ) → from + n ≡ at →
-      rulesFrom (set xs at (r .x)) (set ys at (r .y)) (set zs at (r .z)) (set ks at (r .k)) from (suc n) ≡ rulesFrom xs ys zs ks from n ++ (r ∷ [])
-  unfolding rulesFrom
-  stored-from from zero e =
-      let h : from ≡ at = omega arith in
-      rw (
-        h,
-        getD-set-same xs at (r .x) 0 (omega (arith, c .xlong)),
-        getD-set-same ys at (r .y) 0 (omega (arith, c .ylong)),
-        getD-set-same zs at (r .z) 0 (omega (arith, c .zlong)),
-        getD-set-same ks at (r .k) (pos 0) (omega (arith, c .klong)),
-      )
-  stored-from from (suc n) e =
-      let h : from ≡ at → ⊥ = λ q. omega arith in
-      rw (
-        getD-set-other xs at from (r .x) 0 h,
-        getD-set-other ys at from (r .y) 0 h,
-        getD-set-other zs at from (r .z) 0 h,
-        getD-set-other ks at from (r .k) (pos 0) h,
-        stored-from (from + 1) n (omega arith),
-      )
-
-  pub stored : rulesOf (set xs at (r .x)) (set ys at (r .y)) (set zs at (r .z)) (set ks at (r .k)) (at + 1) ≡ rulesOf xs ys zs ks at ++ (r ∷ [])
-  stored = let e : at + 1 ≡ suc at = omega arith in rw e (stored-from 0 at (omega arith))
 
 -- what `take` makes of the first i rules is in the first m of the columns
 pub record Filling (take : List Rule → List Rule) (xs ys zs : List ℕ) (ks : List ℤ) (count : ℕ) (pxs₀ pys₀ pzs₀ : List ℕ) (pks₀ : List ℤ) (pxs pys pzs : List ℕ) (pks : List ℤ) (m i : ℕ) : Type 0 where
@@ -146,11 +119,11 @@ named-each n rules e =
     record { in-near = at; in-far = at }
 
 -- the rules without tautologies
-pub proper-skip : (r : Rule) (rules : List Rule) → idle r ≡ true → proper (r ∷ rules) ≡ proper rules
+pub proper-skip : (r : Rule) (rules : List Rule) → tautology r ≡ true → proper (r ∷ rules) ≡ proper rules
 unfolding proper
 proper-skip r rules e = cond-yes _ _ e
 
-pub proper-put : (r : Rule) (rules : List Rule) → idle r ≡ false → proper (r ∷ rules) ≡ r ∷ proper rules
+pub proper-put : (r : Rule) (rules : List Rule) → tautology r ≡ false → proper (r ∷ rules) ≡ r ∷ proper rules
 unfolding proper
 proper-put r rules e = cond-no _ _ e
 
@@ -161,7 +134,7 @@ proper-none = refl
 pub proper-each : (P : Rule → Type 0) (rules : List Rule) → Each P rules → Each P (proper rules)
 unfolding proper
 proper-each P [] e = tt
-proper-each P (r ∷ rules) e = go (idle r) (proper-each P rules (e .1))
+proper-each P (r ∷ rules) e = go (tautology r) (proper-each P rules (e .1))
   where
     go : (b : Bool) → Each P (proper rules) → Each P (cond b (proper rules) (r ∷ proper rules))
     go true rest = rest
@@ -176,9 +149,9 @@ module _ {f : ℤ} where
   proper-walk : (rules : List Rule) (b e : List ℤ) (s : ℕ) → Walk f (clausesOf (proper rules)) b e s → Walk f (clausesOf rules) b e s
   unfolding proper clausesOf
   proper-walk [] b e s w = w
-  proper-walk (r ∷ rules) b e s w = go (idle r) refl w (proper-walk rules)
+  proper-walk (r ∷ rules) b e s w = go (tautology r) refl w (proper-walk rules)
     where
-      go : (t : Bool) → idle r ≡ t → Walk f (clausesOf (cond t (proper rules) (r ∷ proper rules))) b e s →
+      go : (t : Bool) → tautology r ≡ t → Walk f (clausesOf (cond t (proper rules) (r ∷ proper rules))) b e s →
           ((b e : List ℤ) (s : ℕ) → Walk f (clausesOf (proper rules)) b e s → Walk f (clausesOf rules) b e s) → Walk f (clauseOf r ∷ clausesOf rules) b e s
       go true t w more = keep (keeps r b (class-meaning r .by-every t b)) (more b e s w)
       go false t w more = after-head more w

@@ -8,19 +8,19 @@ use lib.IntN.{ℤ, pos, _+ℤ_}
 use lib.Signed.{_≤ℤ_, ltZ}
 use Rattle.maxatom.specs.Rule.{timeAt, leftSide, satisfied}
 use Rattle.maxatom.specs.declared.Rule.{Rule}
-use Rattle.maxatom.specs.Class.{idle}
+use Rattle.maxatom.specs.Class.{tautology}
 use Rattle.maxatom.specs.Clauses.{clausesOf}
 use Rattle.maxatom.specs.Jumps.{Walk, Lockstep, Rounds, Passing, Traced, Along}
-use Rattle.solver.specs.Replies.{Lowerable}
+use Rattle.solver.specs.Rules.{Lowerable}
 use Rattle.jump.specs.declared.lockstep.Stand.{Stand}
-use Rattle.jump.specs.declared.lockstep.Stand.the-variants.{Kept, Low, Apart}
+use Rattle.jump.specs.declared.lockstep.Stand.the-variants.{Satisfied, Low, Apart}
 
 -- all rules but the tautologies
 unfoldable pub proper : List Rule → List Rule
 proper [] = []
 proper (r ∷ rules) =
     let rest = proper rules in
-    cond (idle r) rest (r ∷ rest)
+    cond (tautology r) rest (r ∷ rest)
 
 -- the rule with one of its arms for both
 abbrev pub oneArm : ℕ → Rule → Rule
@@ -32,14 +32,14 @@ pub record Steppable (r : Rule) (f : ℤ) (times : List ℤ) : Type 0 where
   pub high : f ≤ℤ leftSide r times
 
 abbrev pub Stands : Rule → ℤ → List ℤ → Stand → Type 0
-Stands r f times Kept = satisfied r times ≡ true
+Stands r f times Satisfied = satisfied r times ≡ true
 Stands r f times Low = Steppable r f times
 Stands r f times Apart = Unit {0}
 
 -- and at two: kept at both by one arm, or violated at both with the same larger arm
-pub data BothKept (r : Rule) (near far : List ℤ) : Type 0 where
-  by-first : satisfied (oneArm (r .x) r) near ≡ true → satisfied (oneArm (r .x) r) far ≡ true → BothKept r near far
-  by-second : satisfied (oneArm (r .y) r) near ≡ true → satisfied (oneArm (r .y) r) far ≡ true → BothKept r near far
+pub data BothSatisfied (r : Rule) (near far : List ℤ) : Type 0 where
+  by-first : satisfied (oneArm (r .x) r) near ≡ true → satisfied (oneArm (r .x) r) far ≡ true → BothSatisfied r near far
+  by-second : satisfied (oneArm (r .y) r) near ≡ true → satisfied (oneArm (r .y) r) far ≡ true → BothSatisfied r near far
 
 pub record BothLow (r : Rule) (f : ℤ) (near far : List ℤ) : Type 0 where
   pub same : ltZ (timeAt near (r .x)) (timeAt near (r .y)) ≡ ltZ (timeAt far (r .x)) (timeAt far (r .y))
@@ -47,7 +47,7 @@ pub record BothLow (r : Rule) (f : ℤ) (near far : List ℤ) : Type 0 where
   pub far-low : Steppable r f far
 
 abbrev pub StandBoth : Rule → ℤ → List ℤ → List ℤ → Stand → Type 0
-StandBoth r f near far Kept = BothKept r near far
+StandBoth r f near far Satisfied = BothSatisfied r near far
 StandBoth r f near far Low = BothLow r f near far
 StandBoth r f near far Apart = Unit {0}
 

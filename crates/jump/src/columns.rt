@@ -1,30 +1,18 @@
 // Rules in columns of their own.
 ghost use mathlib.Core.Path.{_≡_};
-ghost use mathlib.Core.List.{List, [], _∷_, _++_};
-ghost use Prim.Native.Nat.{ℕ, _+_, _≤_};
+ghost use Prim.Native.Nat.{ℕ, _≤_};
 ghost use lib.ListN.{length};
 ghost use lib.IntN.{ℤ};
-ghost use Rattle.maxatom.specs.Class.{idle};
+ghost use Rattle.maxatom.specs.Class.{tautology};
 ghost use Rattle.table.specs.Columns.{rulesOf, Columns};
 ghost use Rattle.jump.specs.Leaps.{proper};
 use maxatom::Rule;
+use table::put;
 use table::rule_at;
-
-// Puts a rule at a place of the columns.
-pub fn put(r: Rule, at: usize, xs: &mut [u16], ys: &mut [u16], zs: &mut [u16], ks: &mut [i32])
-    requires { ⌜ Columns (now xs) (now ys) (now zs) (now ks) (at + 1) ⌝ }
-    ensures { λ u. ⌜ rulesOf (now (xs .exit)) (now (ys .exit)) (now (zs .exit)) (now (ks .exit)) (at + 1) ≡ rulesOf (now (xs .entry)) (now (ys .entry)) (now (zs .entry)) (now (ks .entry)) at ++ (r ∷ []) ⌝ }
-{
-    let k = r.k;
-    xs[at] = r.x;
-    ys[at] = r.y;
-    zs[at] = r.z;
-    ks[at] = k;
-}
 
 // A rule that no times violate.
 fn is_tautology(r: Rule) -> bool
-    ensures { λ b. ⌜ b ≡ idle r ⌝ }
+    ensures { λ b. ⌜ b ≡ tautology r ⌝ }
 {
     let k = r.k;
     if k < 0 {

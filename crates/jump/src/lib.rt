@@ -5,7 +5,6 @@ mod minutes;
 mod plain;
 mod watching;
 
-pub use columns::put;
 pub use columns::take_proper;
 pub use leaping::leap;
 pub use lockstep::one_arm;

@@ -5,7 +5,7 @@ ghost use lib.ListN.{length};
 ghost use lib.IntN.{ℤ};
 ghost use lib.Signed.{ltZ};
 ghost use Rattle.table.specs.Columns.{rulesOf, Columns};
-ghost use Rattle.solver.specs.Replies.{Named, NamedAll};
+ghost use Rattle.solver.specs.Rules.{Named, NamedAll};
 ghost use Rattle.maxatom.specs.Rule.{satisfied};
 ghost use Rattle.jump.specs.Leaps.{oneArm, Stands, StandBoth, Locked, Rounded};
 use maxatom::Rule;
@@ -16,7 +16,7 @@ use table::rule_at;
 
 // How a rule stands: kept; violated, with a left side at or above the floor; or neither, or not alike.
 pub enum Stand {
-    Kept,
+    Satisfied,
     Low,
     Apart,
 }
@@ -29,7 +29,7 @@ pub fn stand_at(r: Rule, f: i32, times: &[i32]) -> Stand
     let t = times[z] as i64;
     let left = left_side(r, times);
     if t <= left {
-        return Stand::Kept;
+        return Stand::Satisfied;
     }
     if left < (f as i64) {
         return Stand::Apart;
@@ -80,10 +80,10 @@ fn stand_both(r: Rule, f: i32, near: &[i32], far: &[i32]) -> Stand
     ensures { λ s. ⌜ StandBoth r f (now (near .entry)) (now (far .entry)) s ⌝ }
 {
     if both_satisfied(one_arm(r, r.x), near, far) {
-        return Stand::Kept;
+        return Stand::Satisfied;
     }
     if both_satisfied(one_arm(r, r.y), near, far) {
-        return Stand::Kept;
+        return Stand::Satisfied;
     }
     let x = r.x as usize;
     let y = r.y as usize;
@@ -92,10 +92,10 @@ fn stand_both(r: Rule, f: i32, near: &[i32], far: &[i32]) -> Stand
     }
     match stand_at(r, f, near) {
         Stand::Apart => Stand::Apart,
-        Stand::Kept => Stand::Apart,
+        Stand::Satisfied => Stand::Apart,
         Stand::Low => match stand_at(r, f, far) {
             Stand::Apart => Stand::Apart,
-            Stand::Kept => Stand::Apart,
+            Stand::Satisfied => Stand::Apart,
             Stand::Low => Stand::Low,
         },
     }
@@ -124,7 +124,7 @@ fn lockstep(
             Stand::Apart => {
                 return 0;
             }
-            Stand::Kept => {
+            Stand::Satisfied => {
                 i += 1;
             }
             Stand::Low => {

@@ -7,7 +7,7 @@ ghost use lib.IntN.{ℤ};
 ghost use Rattle.maxatom.specs.Clauses.{clausesOf};
 ghost use Rattle.maxatom.specs.Jumps.{Passing};
 ghost use Rattle.table.specs.Columns.{rulesOf, Columns};
-ghost use Rattle.solver.specs.Replies.{NamedAll};
+ghost use Rattle.solver.specs.Rules.{NamedAll};
 ghost use Rattle.jump.specs.Leaps.{Walked};
 use crate::lockstep::Stand;
 use crate::lockstep::stand_at;
@@ -58,7 +58,7 @@ pub fn plain_pass(
                     minutes: g,
                 };
             }
-            Stand::Kept => {
+            Stand::Satisfied => {
                 i += 1;
             }
             Stand::Low => {

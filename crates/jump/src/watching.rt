@@ -4,7 +4,7 @@ ghost use Prim.Native.Nat.{ℕ, _*_, _≤_};
 ghost use lib.ListN.{length};
 ghost use lib.IntN.{ℤ};
 ghost use Rattle.table.specs.Columns.{rulesOf, Columns};
-ghost use Rattle.solver.specs.Replies.{NamedAll};
+ghost use Rattle.solver.specs.Rules.{NamedAll};
 ghost use Rattle.jump.specs.Leaps.{Passed, Sized};
 use crate::leaping::leaps;
 

@@ -4,21 +4,20 @@ ghost use mathlib.Core.Path.{_≡_};
 ghost use mathlib.Core.List.{_++_};
 ghost use Prim.Native.Nat.{min};
 ghost use lib.ListN.{length, drop, replicate};
-ghost use Rattle.derivation.specs.Calls.{keptCall, tightCall};
+ghost use Rattle.derivation.specs.Calls.{modelCheckCall, tightCall};
 ghost use Rattle.derivation.specs.Step.{noRule, stepCall};
-ghost use Rattle.solver.specs.Replies.{keptReply, tightReply, steppedReply, stateOf};
+ghost use Rattle.derivation.specs.Replies.{readOf, modelCheckReply, tightReply, outcomeReply, stateOf, SolvedCall};
 ghost use Rattle.maxatom.specs.declared.Rule.{Rule};
-ghost use Rattle.loaded.specs.Loaded.{SolvedCall};
-ghost use Rattle.bookfile.specs.Replies.{readOf, readReply, readInto};
+ghost use Rattle.bookfile.specs.Replies.{readReply, readInto};
 ghost use Rattle.lent.specs.Part.{lentOf};
+use entries::StepOut;
 use planner::FirstViolated;
+use planner::Outcome;
 use planner::Read;
 use planner::Rule;
 use planner::Solved;
-use planner::Stepped;
 use planner::Tally;
 use planner::Tightness;
-use solver::StepOut;
 
 // What reading says, and the table that it leaves.
 pub struct BookRead {
@@ -54,7 +53,7 @@ fn with_table(said: Read, table: [Rule; 1025]) -> BookRead
     }
 }
 
-fn with_tally(said: Stepped, tally: Tally) -> StepOut
+fn with_tally(said: Outcome, tally: Tally) -> StepOut
     ensures { λ r. ⌜ r ≡ record { said = said; tally = tally } ⌝ }
 {
     StepOut {
@@ -74,7 +73,7 @@ pub fn read_book(file: &[u8], table: [Rule; 1025], count: usize) -> BookRead
 }
 
 pub fn first_violated(n: usize, table: [Rule; 1025], count: usize, times: &[i32]) -> FirstViolated
-    ensures { λ r. ⌜ keptReply r ≡ keptCall n (lentOf count table) (now (times .entry)) ⌝ }
+    ensures { λ r. ⌜ modelCheckReply r ≡ modelCheckCall n (lentOf count table) (now (times .entry)) ⌝ }
 {
     let c = at_most(count);
     planner::first_violated(n, &table[..c], times)
@@ -101,7 +100,7 @@ pub fn step(
     tally: Tally,
     number: usize,
 ) -> StepOut
-    ensures { λ r. ⌜ (steppedReply (r .said) ≡ stepCall n (lentOf count table) (stateOf (now (times .entry)) tally) number .said)
+    ensures { λ r. ⌜ (outcomeReply (r .said) ≡ stepCall n (lentOf count table) (stateOf (now (times .entry)) tally) number .said)
         × (now (times .exit) ≡ stepCall n (lentOf count table) (stateOf (now (times .entry)) tally) number .after .times)
         × (r .tally ≡ stepCall n (lentOf count table) (stateOf (now (times .entry)) tally) number .after .tally) ⌝ }
 {

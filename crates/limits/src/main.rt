@@ -1,7 +1,7 @@
 // Files and plans at and past each limit of document 01, one line a case: what the reader and the plan writer answer.
 ghost use Prim.Native.Nat.{_<_, _≤_};
+use planner::Outcome;
 use planner::Read;
-use planner::Written;
 use planner::write_plan;
 
 fn put(buf: &mut [u8], at: usize, b: u8) {
@@ -148,10 +148,10 @@ fn with_times(n: usize, at: usize)
     let times = [0i32; 300];
     let mut out = [0u8; 2048];
     match write_plan(&times[0..n], &mut out, at) {
-        Written::Done => {
+        Outcome::Done => {
             io::write_all(1, b"WRITTEN\n");
         }
-        Written::Refused(r) => {
+        Outcome::Refused(r) => {
             io::write_all(1, b"REFUSED ");
             say(r.number as u64, r.place as u64);
         }

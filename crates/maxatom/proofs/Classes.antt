@@ -10,7 +10,7 @@ use lib.IntN.{ℤ, pos, _+ℤ_}
 use lib.Signed.{_≤ℤ_, _<ℤ_, ltZ, leZ}
 use borrow.Author.Tests.{eqb-true, eqb-false, eq-eqb, not-true}
 use Rattle.maxatom.specs.Rule.{timeAt, maxZ, leftSide, satisfied}
-use Rattle.maxatom.specs.Class.{negative, idle, impossible, oneArmed, twoArmed, classOf, actingTwice, bitOf, ClassMeaning}
+use Rattle.maxatom.specs.Class.{negative, tautology, contradiction, difference, disjunctive, classOf, actingTwice, bitOf, ClassMeaning}
 use Rattle.maxatom.specs.ClassNumber.{shapeOf, classAt}
 use Rattle.maxatom.specs.declared.Rule.{Rule}
 use Rattle.maxatom.specs.declared.Class.{Class}
@@ -45,11 +45,11 @@ module _ (r : Rule) where
   agree p q e = eqb-false (r .z) (r .x) p (eqb-true (r .z) (r .y) q ∙ sym (eqb-true (r .x) (r .y) e))
 
   pub by-number : classAt (shapeOf (r .x) (r .y) (r .z) + 4 * bitOf (ltZ (r .k) (pos 0))) ≡ classOf r
-  unfolding shapeOf classOf idle impossible oneArmed oneBit
+  unfolding shapeOf classOf tautology contradiction difference oneBit
   by-number = table (eqb (r .z) (r .x)) (eqb (r .z) (r .y)) (eqb (r .x) (r .y)) (negative r) agree .1
 
-  exactly : bitOf (idle r) + bitOf (impossible r) + bitOf (oneArmed r) + bitOf (twoArmed r) ≡ 1
-  unfolding idle impossible oneArmed twoArmed oneBit
+  exactly : bitOf (tautology r) + bitOf (contradiction r) + bitOf (difference r) + bitOf (disjunctive r) ≡ 1
+  unfolding tautology contradiction difference disjunctive oneBit
   exactly = table (eqb (r .z) (r .x)) (eqb (r .z) (r .y)) (eqb (r .x) (r .y)) (negative r) agree .0
 
 -- of four tests of which one holds, the others fail
@@ -94,8 +94,8 @@ module _ (times : List ℤ) where
   not-own : (v k : ℤ) → k <ℤ pos 0 → v ≤ℤ (v +ℤ k) → ⊥
   not-own v k n h = omega (arith, lt-read n, le-read h, add-parts v k)
 
-  every : (r : Rule) → idle r ≡ true → satisfied r times ≡ true
-  unfolding idle satisfied leftSide
+  every : (r : Rule) → tautology r ≡ true → satisfied r times ≡ true
+  unfolding tautology satisfied leftSide
   every r h =
       let (p, q) = both (not (negative r)) (eqb (r .z) (r .x) || eqb (r .z) (r .y)) h in
       let k : pos 0 ≤ℤ r .k = lt-false (r .k) (pos 0) (not-true _ p) in
@@ -105,8 +105,8 @@ module _ (times : List ℤ) where
       (⊎-elim (λ e. inl (rw (← time (eqb-true (r .z) (r .x) e)) own)) (λ e. inr (rw (← time (eqb-true (r .z) (r .y) e)) own))
       (either (eqb (r .z) (r .x)) (eqb (r .z) (r .y)) q)))
 
-  none : (r : Rule) → impossible r ≡ true → satisfied r times ≡ false
-  unfolding impossible satisfied leftSide
+  none : (r : Rule) → contradiction r ≡ true → satisfied r times ≡ false
+  unfolding contradiction satisfied leftSide
   none r h =
       let (p, q) = both (negative r) (eqb (r .z) (r .x) && eqb (r .z) (r .y)) h in
       let (u, w) = both (eqb (r .z) (r .x)) (eqb (r .z) (r .y)) q in
@@ -124,8 +124,8 @@ module _ (times : List ℤ) where
       same _ _ (λ e. true-le (by-arm v c c k (inl (f (le-true e)))))
       (λ e. true-le (g (⊎-elim (λ p. p) (λ p. p) (max-split v c c k (le-true e)))))
 
-  acting : (r : Rule) → oneArmed r ≡ true → satisfied r times ≡ satisfied (actingTwice r) times
-  unfolding oneArmed satisfied leftSide actingTwice
+  acting : (r : Rule) → difference r ≡ true → satisfied r times ≡ satisfied (actingTwice r) times
+  unfolding difference satisfied leftSide actingTwice
   acting r h =
       ⊎-elim
       (λ (p : (negative r && xor (eqb (r .z) (r .x)) (eqb (r .z) (r .y))) ≡ true).
@@ -150,19 +150,19 @@ module _ (times : List ℤ) where
       z = timeAt times (r .z)
 
 pub class-meaning : (r : Rule) → ClassMeaning r
-unfolding classOf twoArmed
+unfolding classOf disjunctive
 class-meaning r =
-    let i = idle r in
-    let m = impossible r in
-    let o = oneArmed r in
-    let w = twoArmed r in
+    let i = tautology r in
+    let m = contradiction r in
+    let o = difference r in
+    let w = disjunctive r in
     let s = exactly r in
     record {
       exactly-one = s;
-      said-idle = λ e. cond-yes _ _ e;
-      said-impossible = λ e. let q = others m i o w (omega arith) e in cond-no _ _ (q .0) ∙ cond-yes _ _ e;
-      said-one-armed = λ e. let q = others o i m w (omega arith) e in cond-no _ _ (q .0) ∙ cond-no _ _ (q .1) ∙ cond-yes _ _ e;
-      said-two-armed = λ e. let q = others w i m o (omega arith) e in cond-no _ _ (q .0) ∙ cond-no _ _ (q .1) ∙ cond-no _ _ (q .2);
+      said-tautology = λ e. cond-yes _ _ e;
+      said-contradiction = λ e. let q = others m i o w (omega arith) e in cond-no _ _ (q .0) ∙ cond-yes _ _ e;
+      said-difference = λ e. let q = others o i m w (omega arith) e in cond-no _ _ (q .0) ∙ cond-no _ _ (q .1) ∙ cond-yes _ _ e;
+      said-disjunctive = λ e. let q = others w i m o (omega arith) e in cond-no _ _ (q .0) ∙ cond-no _ _ (q .1) ∙ cond-no _ _ (q .2);
       by-every = λ e times. every times r e;
       by-none = λ e times. none times r e;
       by-acting = λ e times. acting times r e;

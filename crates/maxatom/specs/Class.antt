@@ -15,25 +15,25 @@ abbrev pub negative : Rule → Bool
 negative r = ltZ (r .k) (pos 0)
 
 -- idle: k is zero or more, and z is x or y
-unfoldable pub idle : Rule → Bool
-idle r = not (negative r) && (eqb (r .z) (r .x) || eqb (r .z) (r .y))
+unfoldable pub tautology : Rule → Bool
+tautology r = not (negative r) && (eqb (r .z) (r .x) || eqb (r .z) (r .y))
 
 -- impossible: k is negative, and x, y, z are one job
-unfoldable pub impossible : Rule → Bool
-impossible r = negative r && (eqb (r .z) (r .x) && eqb (r .z) (r .y))
+unfoldable pub contradiction : Rule → Bool
+contradiction r = negative r && (eqb (r .z) (r .x) && eqb (r .z) (r .y))
 
 -- one-armed: k is negative and z is just one of x and y, or x = y and z differs
-unfoldable pub oneArmed : Rule → Bool
-oneArmed r =
+unfoldable pub difference : Rule → Bool
+difference r =
     negative r && xor (eqb (r .z) (r .x)) (eqb (r .z) (r .y))
     || (not (eqb (r .z) (r .x)) && eqb (r .x) (r .y))
 
 -- two-armed: all else
-unfoldable pub twoArmed : Rule → Bool
-twoArmed r = not (idle r) && (not (impossible r) && not (oneArmed r))
+unfoldable pub disjunctive : Rule → Bool
+disjunctive r = not (tautology r) && (not (contradiction r) && not (difference r))
 
 unfoldable pub classOf : Rule → Class
-classOf r = cond (idle r) Tautology (cond (impossible r) Contradiction (cond (oneArmed r) Difference Disjunctive))
+classOf r = cond (tautology r) Tautology (cond (contradiction r) Contradiction (cond (difference r) Difference Disjunctive))
 
 -- a one-armed rule acts as this job twice
 unfoldable pub actingTwice : Rule → Rule
@@ -47,11 +47,11 @@ bitOf true = 1
 
 -- what the classes mean
 pub record ClassMeaning (r : Rule) : Type 0 where
-  pub exactly-one : bitOf (idle r) + bitOf (impossible r) + bitOf (oneArmed r) + bitOf (twoArmed r) ≡ 1
-  pub said-idle : idle r ≡ true → classOf r ≡ Tautology
-  pub said-impossible : impossible r ≡ true → classOf r ≡ Contradiction
-  pub said-one-armed : oneArmed r ≡ true → classOf r ≡ Difference
-  pub said-two-armed : twoArmed r ≡ true → classOf r ≡ Disjunctive
-  pub by-every : idle r ≡ true → (times : List ℤ) → satisfied r times ≡ true
-  pub by-none : impossible r ≡ true → (times : List ℤ) → satisfied r times ≡ false
-  pub by-acting : oneArmed r ≡ true → (times : List ℤ) → satisfied r times ≡ satisfied (actingTwice r) times
+  pub exactly-one : bitOf (tautology r) + bitOf (contradiction r) + bitOf (difference r) + bitOf (disjunctive r) ≡ 1
+  pub said-tautology : tautology r ≡ true → classOf r ≡ Tautology
+  pub said-contradiction : contradiction r ≡ true → classOf r ≡ Contradiction
+  pub said-difference : difference r ≡ true → classOf r ≡ Difference
+  pub said-disjunctive : disjunctive r ≡ true → classOf r ≡ Disjunctive
+  pub by-every : tautology r ≡ true → (times : List ℤ) → satisfied r times ≡ true
+  pub by-none : contradiction r ≡ true → (times : List ℤ) → satisfied r times ≡ false
+  pub by-acting : difference r ≡ true → (times : List ℤ) → satisfied r times ≡ satisfied (actingTwice r) times

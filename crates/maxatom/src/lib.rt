@@ -6,6 +6,7 @@ ghost use Rattle.maxatom.specs.Class.{bitOf, classOf};
 ghost use Rattle.maxatom.specs.ClassNumber.{shapeOf, classAt};
 
 // A max-atom, max(x, y) + k ≥ z over the times of three jobs. Document 01: a rule.
+#[repr(C)]
 pub struct Rule {
     pub x: u16,
     pub y: u16,

@@ -20,7 +20,7 @@ use Rattle.derivation.specs.Step.{ruleAt}
 use Rattle.derivation.proofs.AnyOrder.{each-at}
 use Rattle.table.specs.Columns.{ruleOf, rulesFrom, rulesOf, Columns}
 use Rattle.table.proofs.Rows.{rows-next, rows-end}
-use Rattle.solver.specs.Replies.{Named, NamedAll}
+use Rattle.solver.specs.Rules.{Named, NamedAll}
 use Rattle.jump.specs.Leaps.{oneArm}
 use Rattle.jump.proofs.Taking.{at-each, named-each}
 use Rattle.parts.specs.Parts.{labelAt, armsLeft, leftover, among, pick}

@@ -7,7 +7,7 @@ ghost use lib.IntN.{ℤ, pos, _+ℤ_};
 ghost use lib.Signed.{_≤ℤ_};
 ghost use Rattle.maxatom.specs.Rule.{timeAt};
 ghost use Rattle.table.specs.Columns.{rulesOf, Columns};
-ghost use Rattle.solver.specs.Replies.{NamedAll};
+ghost use Rattle.solver.specs.Rules.{NamedAll};
 ghost use Rattle.jump.specs.Leaps.{Sized, Passed};
 ghost use Rattle.parts.specs.Parts.{Advanced, Chosen, Ahead};
 use crate::lines::all_allow;

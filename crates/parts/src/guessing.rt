@@ -5,7 +5,7 @@ ghost use Prim.Native.Nat.{ℕ, _+_, _*_, _<_, _≤_, _^_};
 ghost use lib.ListN.{length};
 ghost use lib.IntN.{ℤ};
 ghost use Rattle.table.specs.Columns.{rulesOf, Columns};
-ghost use Rattle.solver.specs.Replies.{Named, NamedAll};
+ghost use Rattle.solver.specs.Rules.{Named, NamedAll};
 use crate::lines::all_allow;
 use crate::trimming::fill;
 use jump::copy;

@@ -6,7 +6,7 @@ ghost use lib.ListN.{length, getD};
 ghost use lib.IntN.{ℤ};
 ghost use Rattle.maxatom.specs.Rule.{timeAt};
 ghost use Rattle.table.specs.Columns.{rulesOf, Columns};
-ghost use Rattle.solver.specs.Replies.{Named, NamedAll};
+ghost use Rattle.solver.specs.Rules.{Named, NamedAll};
 ghost use Rattle.parts.specs.Parts.{Staying, Above, RuleAllowed, Allowed};
 use crate::trimming::Arms;
 use crate::trimming::arms_left;

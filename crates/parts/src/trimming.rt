@@ -5,11 +5,11 @@ ghost use mathlib.Core.List.{List, [], _∷_, _++_};
 ghost use lib.ListN.{length};
 ghost use lib.IntN.{ℤ};
 ghost use Rattle.table.specs.Columns.{rulesOf, Columns};
-ghost use Rattle.solver.specs.Replies.{Named, NamedAll};
+ghost use Rattle.solver.specs.Rules.{Named, NamedAll};
 ghost use Rattle.parts.specs.Parts.{armsLeft, pick};
 use jump::one_arm;
-use jump::put;
 use maxatom::Rule;
+use table::put;
 use table::rule_at;
 
 // Both arms; one of them; or nothing, since another part keeps the rule.

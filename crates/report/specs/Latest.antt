@@ -9,7 +9,7 @@ use Rattle.derivation.specs.Run.{End, planned, fell, unfinished}
 use Rattle.derivation.specs.Calls.{Answer, runReply, runTimes}
 use Rattle.bookfile.specs.Replies.{fileReply}
 use Rattle.bookfile.specs.Theorems.{rulesIn}
-use Rattle.bookfile.specs.declared.reading.Counts.{Counts}
+use Rattle.derivation.specs.declared.Counts.{Counts}
 use Rattle.report.specs.Report.{refusedLine, planText, noneText}
 
 -- a plan or none; the bench run never ends unfinished

@@ -2,16 +2,16 @@
 ghost use mathlib.Core.List.{List, [], _∷_, _++_};
 ghost use Prim.Native.Nat.{_+_, _<_, _≤_, _^_};
 ghost use lib.ListN.{length};
-ghost use Rattle.maxatom.specs.Book.{Accepted};
+ghost use mathlib.Core.Path.{_≡_};
+ghost use Rattle.maxatom.specs.Book.{Accepted, total};
 ghost use Rattle.table.specs.Columns.{rulesOf, Columns};
 ghost use Rattle.report.specs.Text.{Written};
-ghost use Rattle.report.specs.Report.{bookLine, jobLine, jobLines, tightFields, tightLine, stepsLine, noneLine, refusedLine, planText, noneText};
+ghost use Rattle.report.specs.Report.{bookLine, jobLine, jobLines, tightFields, tightLine, stepsLine, noneLine, refusedLine, planText};
 use crate::text::put_field;
 use crate::text::put_signed;
 use crate::text::put_word;
 use solver::is_equality;
 use table::rule_at;
-use table::total;
 
 pub fn book_line(jobs: u64, rules: u64, k: u64, out: &mut [u8], at: usize) -> usize
     requires { ⌜ at < 2 ^ 37 ⌝ }
@@ -131,47 +131,35 @@ pub fn tight_line(
     put_word(out, q, b"\n")
 }
 
-// The report of a plan.
+// The report of a plan of a book whose K is k.
 pub fn plan_text(
     xs: &[u16],
     ys: &[u16],
     zs: &[u16],
     ks: &[i32],
     count: usize,
+    k: u32,
     times: &[i32],
     steps: u64,
     out: &mut [u8],
 ) -> usize
     requires { ⌜ Columns (now xs) (now ys) (now zs) (now ks) count ⌝ }
     requires { ⌜ Accepted (length (now times)) (rulesOf (now xs) (now ys) (now zs) (now ks) count) ⌝ }
+    requires { ⌜ k ≡ total (rulesOf (now xs) (now ys) (now zs) (now ks) count) ⌝ }
     ensures { λ r. ⌜ Written (now (out .entry)) 0 (planText (rulesOf (now (xs .entry)) (now (ys .entry)) (now (zs .entry)) (now (ks .entry)) count) (now (times .entry)) steps) (now (out .exit)) r ⌝ }
     ensures { λ r. ⌜ r ≤ 65536 ⌝ }
 {
-    let k = total(xs, ys, zs, ks, count);
     let p = book_line(times.len() as u64, count as u64, k as u64, out, 0);
     let q = job_lines(times, out, p);
     let s = tight_line(xs, ys, zs, ks, count, times, out, q);
     steps_line(steps, out, s)
 }
 
-// The report of none.
-pub fn none_text(
-    xs: &[u16],
-    ys: &[u16],
-    zs: &[u16],
-    ks: &[i32],
-    count: usize,
-    n: usize,
-    job: u16,
-    steps: u64,
-    out: &mut [u8],
-) -> usize
-    requires { ⌜ Columns (now xs) (now ys) (now zs) (now ks) count ⌝ }
-    requires { ⌜ Accepted n (rulesOf (now xs) (now ys) (now zs) (now ks) count) ⌝ }
-    ensures { λ r. ⌜ Written (now (out .entry)) 0 (noneText n (rulesOf (now (xs .entry)) (now (ys .entry)) (now (zs .entry)) (now (ks .entry)) count) job steps) (now (out .exit)) r ⌝ }
+// The report of none, for a book of n jobs and `count` rules whose K is k.
+pub fn none_text(n: usize, count: usize, k: u32, job: u16, steps: u64, out: &mut [u8]) -> usize
+    ensures { λ r. ⌜ Written (now (out .entry)) 0 (bookLine n count k ++ (noneLine job ++ stepsLine steps)) (now (out .exit)) r ⌝ }
     ensures { λ r. ⌜ r ≤ 65536 ⌝ }
 {
-    let k = total(xs, ys, zs, ks, count);
     let p = book_line(n as u64, count as u64, k as u64, out, 0);
     let q = none_line(job as u64, out, p);
     steps_line(steps, out, q)

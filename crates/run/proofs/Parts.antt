@@ -47,22 +47,22 @@ module _ {xs ys zs : List ℕ} {ks : List ℤ} {count from to : ℕ} {noted : Bo
     parting-kept e =
         record { low = omega arith; going = going-kept (g .going) (omega arith) e; settled = λ r q. settled-kept (g .settled r q) (ap (λ (t : Rule). satisfied t b) at ∙ e) }
 
-    module _ (broken : satisfied rule b ≡ false) {b′ : List ℤ} (left : b′ ≡ set b (rule .z) (leftSide rule b)) where
+    module _ (violated : satisfied rule b ≡ false) {b′ : List ℤ} (left : b′ ≡ set b (rule .z) (leftSide rule b)) where
       pub parting-low : ltZ (leftSide rule b) (floor rules) ≡ false → rule .z < length b → {words : List ℕ} → Reads rules words → {k : ℕ} → k ≡ getD words (rule .z) 0 →
           Parting xs ys zs ks count from to noted b₀ s₀ m₀ b′ (s + 1) (bitOr m k) (i + 1)
       parting-low up named {words = words} reads e =
           record {
             low = omega arith;
-            going = going-low (g .going) (omega arith) broken left up;
+            going = going-low (g .going) (omega arith) violated left up;
             settled = λ r q. subst (λ (k : ℕ). Settled rules b′ (bitOr m k) (i + 1) to) (ap (λ (t : Rule). getD words (t .z) 0) at ∙ sym e)
-                (settled-low (g .settled r q) reads (ap (λ (t : Rule). satisfied t b) at ∙ broken) (rw at named) (left ∙ ap (λ (t : Rule). set b (t .z) (leftSide t b)) (sym at)));
+                (settled-low (g .settled r q) reads (ap (λ (t : Rule). satisfied t b) at ∙ violated) (rw at named) (left ∙ ap (λ (t : Rule). set b (t .z) (leftSide t b)) (sym at)));
           }
 
       pub parting-unnoted : ltZ (leftSide rule b) (floor rules) ≡ false → noted ≡ false → Parting xs ys zs ks count from to noted b₀ s₀ m₀ b′ (s + 1) m (i + 1)
       parting-unnoted up un =
           record {
             low = omega arith;
-            going = going-low (g .going) (omega arith) broken left up;
+            going = going-low (g .going) (omega arith) violated left up;
             settled = λ r q. absurd (true≢false (sym r ∙ un));
           }
 
@@ -72,7 +72,7 @@ module _ {xs ys zs : List ℕ} {ks : List ℤ} {count from to : ℕ} {noted : Bo
           record {
             running = λ f. absurd (true≢false (sym t ∙ f));
             rest = λ f. absurd (true≢false (sym t ∙ f));
-            ended = λ f. rw (e, q) (going-fell (g .going) (omega arith) broken left low);
+            ended = λ f. rw (e, q) (going-fell (g .going) (omega arith) violated left low);
           }
 
   pub parting-all : to ≤ i → (out : PassOut) → out .steps ≡ s → out .fell ≡ false → Parted xs ys zs ks count from to b₀ s₀ b out

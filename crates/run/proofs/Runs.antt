@@ -5,41 +5,36 @@ use mathlib.Core.List.{List, [], _∷_, _++_}
 use Prim.Native.Nat.{ℕ, zero, suc, _+_, _-_, _*_, _<_, _≤_, _^_}
 use native.Mathlib.Nat.{mul-le-mul}
 use native.Mathlib.Omega.{arith}
-use lib.ListN.{length, set, length-set, replicate}
+use lib.ListN.{length, set, replicate}
 use lib.IntN.{ℤ, pos}
 use lib.Signed.{_≤ℤ_, ltZ}
 use lib.Dec.{eqb}
 use borrow.Author.Tests.{eq-eqb, ne-eqb}
 use mir.Syntax.{w32}
 use mir.Val.{SFits}
-use Rattle.maxatom.specs.Rule.{timeAt, leftSide, satisfied, minutesOff}
+use Rattle.maxatom.specs.Rule.{timeAt, leftSide, satisfied}
 use Rattle.maxatom.specs.Book.{Accepted, total, floor}
 use Rattle.maxatom.specs.declared.Rule.{Rule}
-use Rattle.maxatom.specs.Clauses.{clausesOf}
 use Rattle.maxatom.proofs.Choose.{cond-yes, cond-no}
-use Rattle.maxatom.proofs.Derivations.{Derivation, start, longest-high}
+use Rattle.maxatom.proofs.Derivations.{start, longest-high}
 use Rattle.maxatom.proofs.Rules.{room-zero, zero-time}
-use Rattle.derivation.specs.Step.{State, initial, ruleAt, belowFloor, stepOn, stepCall}
+use Rattle.derivation.specs.Step.{State, initial, ruleAt, belowFloor, stepOn}
 use Rattle.derivation.specs.Play.{play, endState, upFrom}
 use Rattle.derivation.specs.Run.{Run, End, pass, passes, passBound, solve, fallen, planned, fell, unfinished}
 use Rattle.derivation.specs.Demands.{finally}
 use Rattle.derivation.proofs.Reached.{Reached, set-of, size-is, not-after, high-test, test-high, floor-low, view}
 use Rattle.derivation.proofs.AnyOrder.{played}
-use Rattle.derivation.proofs.Passes.{runOn, run-append, after-step, stays-above, PassIs, pass-is}
+use Rattle.derivation.proofs.Passes.{run-append, after-step, stays-above, PassIs, pass-is}
 use Rattle.table.specs.Columns.{ruleOf, rulesFrom, rulesOf}
 use Rattle.table.proofs.Rows.{rows-next, rows-end, rows-length, rows-at}
-use Rattle.solver.specs.Replies.{Lowerable}
-use Rattle.run.specs.Replies.{solvedReply, SolvedAs, Meaning}
+use Rattle.solver.specs.Rules.{Lowerable}
+use Rattle.derivation.specs.Replies.{solvedReply, SolvedAs}
 use Rattle.run.specs.Passing.{Running, runOf, Looping}
 use Rattle.run.specs.declared.passing.PassOut.{PassOut}
-use Rattle.run.specs.declared.Solved.the-variants.{Plan, None, Refused}
-use Rattle.run.specs.declared.Solved.{Solved}
-use Rattle.derivation.specs.declared.Refusal.{Refusal}
-use Rattle.derivation.specs.Refusals.{Reply, refused, answer, accepts, lent, verdict, timesChecks}
-use Rattle.derivation.specs.Calls.{Answer, answerOf, runReply, runTimes}
-use Rattle.derivation.proofs.Checks.{accepting, passed, refused-same, answered-same, times-accepted}
-use Rattle.derivation.proofs.Exact.{demand-2, run-facts}
-use Rattle.solver.proofs.Laws.{named, in-book}
+use Rattle.derivation.specs.declared.Solved.the-variants.{Plan, None}
+use Rattle.derivation.specs.Refusals.{answer}
+use Rattle.derivation.specs.Calls.{answerOf}
+use Rattle.solver.proofs.Laws.{in-book}
 use Rattle.solver.proofs.Steps.{total-bound, left-fits, lowerable}
 
 module _ {jobs : ℕ} {rules : List Rule} {times : List ℤ} {steps : ℕ} (p : Running jobs rules times steps) where
@@ -68,19 +63,19 @@ module _ {jobs : ℕ} {rules : List Rule} {times : List ℤ} {steps : ℕ} (p : 
   pub running-step : (i : ℕ) → i < length rules → satisfied (ruleAt rules i) times ≡ false → ltZ (leftSide (ruleAt rules i) times) (floor rules) ≡ false →
       Running jobs rules (set times (ruleAt rules i .z) (leftSide (ruleAt rules i) times)) (steps + 1)
   unfolding stepOn play endState
-  running-step i h broken up =
+  running-step i h violated up =
       let r = ruleAt rules i in
       let s = finally jobs rules (p .calls) in
       let same = p .same-times in
-      let broken′ : satisfied r (s .times) ≡ false = rw same broken in
-      let after : finally jobs rules (p .calls ++ (i ∷ [])) ≡ stepOn r s = run-append jobs rules (initial jobs) (p .calls) (i ∷ []) ∙ after-step (p .accepted) (view (p .accepted) s i reached) h high broken′ in
+      let violated′ : satisfied r (s .times) ≡ false = rw same violated in
+      let after : finally jobs rules (p .calls ++ (i ∷ [])) ≡ stepOn r s = run-append jobs rules (initial jobs) (p .calls) (i ∷ []) ∙ after-step (p .accepted) (view (p .accepted) s i reached) h high violated′ in
       let times′ : stepOn r s .times ≡ set times (r .z) (leftSide r times) = rw same in
       record {
         accepted = p .accepted;
         calls = p .calls ++ (i ∷ []);
         same-times = ap (λ (x : State). x .times) after ∙ times′;
         same-steps = ap (λ (x : State). x .tally .steps) after ∙ ap (λ (n : ℕ). n + 1) (p .same-steps);
-        above = rw times′ at (stays-above (p .accepted) reached i h high broken′ (rw same up));
+        above = rw times′ at (stays-above (p .accepted) reached i h high violated′ (rw same up));
       }
 
 -- the rules of a pass from one to before i are passed: the times were b₀ after s₀ steps, and are b after s
@@ -111,12 +106,12 @@ module _ {xs ys zs : List ℕ} {ks : List ℤ} {count from : ℕ} {b₀ : List �
 
   -- the left side of the rule is a number of 32 bits
   pub fits-here : i < count → SFits w32 (leftSide rule b)
-  fits-here h = left-fits (g .running .accepted) b (early (g .running)) (g .running .above) rule (in-book xs ys zs ks count i (g .running .accepted) h)
+  fits-here h = left-fits (total-bound (g .running .accepted)) b (early (g .running)) (g .running .above) rule (in-book xs ys zs ks count i (g .running .accepted) h)
 
-  module _ (h : i < count) (broken : satisfied rule b ≡ false) where
+  module _ (h : i < count) (violated : satisfied rule b ≡ false) where
     pub lowerable-here : Lowerable rule b
     lowerable-here =
-        lowerable (g .running .accepted) b (early (g .running)) (g .running .above) rule (in-book xs ys zs ks count i (g .running .accepted) h) broken
+        lowerable (total-bound (g .running .accepted)) b (early (g .running)) (g .running .above) rule (in-book xs ys zs ks count i (g .running .accepted) h) violated
 
     pub going-low : {b′ : List ℤ} → b′ ≡ set b (rule .z) (leftSide rule b) → ltZ (leftSide rule b) (floor rules) ≡ false → Going xs ys zs ks count from b₀ s₀ b′ (s + 1) (i + 1)
     unfolding pass
@@ -124,15 +119,15 @@ module _ {xs ys zs : List ℕ} {ks : List ℤ} {count from : ℕ} {b₀ : List �
         let at = rows-at xs ys zs ks count i h in
         record {
           low = omega arith;
-          running = rw q (rw at at (running-step (g .running) i (omega (arith, rows-length xs ys zs ks 0 count)) (rw at broken) (rw at up)));
-          rest = head h ∙ (cond-no _ _ broken ∙ (cond-no _ _ up ∙ ap (λ (t : List ℤ). pass (floor rules) (rulesFrom xs ys zs ks (i + 1) (count - (i + 1))) t (s + 1)) (sym q)));
+          running = rw q (rw at at (running-step (g .running) i (omega (arith, rows-length xs ys zs ks 0 count)) (rw at violated) (rw at up)));
+          rest = head h ∙ (cond-no _ _ violated ∙ (cond-no _ _ up ∙ ap (λ (t : List ℤ). pass (floor rules) (rulesFrom xs ys zs ks (i + 1) (count - (i + 1))) t (s + 1)) (sym q)));
         }
 
     pub going-fell : {b′ : List ℤ} → b′ ≡ set b (rule .z) (leftSide rule b) → ltZ (leftSide rule b) (floor rules) ≡ true →
         whole ≡ record { times = b′; steps = s + 1; end = fell (rule .z) }
     unfolding pass
     going-fell q low =
-        head h ∙ (cond-no _ _ broken ∙ (cond-yes _ _ low ∙ ap (λ (t : List ℤ). record { times = t; steps = s + 1; end = fell (rule .z) }) (sym q)))
+        head h ∙ (cond-no _ _ violated ∙ (cond-yes _ _ low ∙ ap (λ (t : List ℤ). record { times = t; steps = s + 1; end = fell (rule .z) }) (sym q)))
 
   pub going-all : count ≤ i → whole ≡ record { times = b; steps = s; end = unfinished }
   unfolding pass
@@ -235,49 +230,3 @@ module _ {jobs : ℕ} {rules : List Rule} {b : List ℤ} {s : ℕ} (l : Looping 
 
     pub solved-less : (p .steps ≡ s → ⊥) → passBound jobs rules - p .steps < passBound jobs rules - s
     solved-less q = looping-less l (runOf p t) said (fallen-is e) q
-
--- the whole call, refused or not
-module _ (jobs : ℕ) (rules : List Rule) (buffer : List ℤ) where
-  lent-by : {said : Reply Answer} → runReply jobs rules buffer ≡ said → runTimes jobs rules buffer ≡ lent said buffer (solve jobs rules .times)
-  unfolding runTimes
-  lent-by e = ap (λ (said : Reply Answer). lent said buffer (solve jobs rules .times)) e
-
-  pub run-refused : (q : Refusal) → verdict (timesChecks jobs rules buffer) ≡ refused (q .number) (q .place) →
-      (solvedReply (Refused q) ≡ runReply jobs rules buffer) × (buffer ≡ runTimes jobs rules buffer)
-  unfolding runReply solvedReply lent
-  run-refused q e =
-      let r = refused-same tt (answerOf (solve jobs rules)) (timesChecks jobs rules buffer) e in
-      (sym r, sym (lent-by r))
-
-  pub run-answered : verdict (timesChecks jobs rules buffer) ≡ answer tt → (r : Solved) (t : List ℤ) → SolvedAs (solve jobs rules) r t →
-      (solvedReply r ≡ runReply jobs rules buffer) × (t ≡ runTimes jobs rules buffer)
-  unfolding runReply lent
-  run-answered e r t s =
-      let q = answered-same tt (answerOf (solve jobs rules)) (timesChecks jobs rules buffer) e in
-      (s .said ∙ sym q, s .left ∙ sym (lent-by q))
-
-  same-answer : {a b : Answer} → answer a ≡ answer b → a ≡ b
-  same-answer e = cc
-
-  -- an answer is the run's, of an accepted book, and the times are those that the run left
-  pub answered : (w : Answer) → runReply jobs rules buffer ≡ answer w →
-      Accepted jobs rules × (answerOf (solve jobs rules) ≡ w) × (runTimes jobs rules buffer ≡ solve jobs rules .times)
-  unfolding runReply accepts lent
-  answered w e =
-      let whole = accepting (timesChecks jobs rules buffer) (answerOf (solve jobs rules)) (passed (timesChecks jobs rules buffer) (answerOf (solve jobs rules)) (ap accepts e)) in
-      (times-accepted (answerOf (solve jobs rules)) jobs rules buffer whole .0, same-answer (sym whole ∙ e), lent-by whole)
-
-  -- so the equations say what plan and none mean
-  pub means : (r : Solved) (t : List ℤ) → solvedReply r ≡ runReply jobs rules buffer → t ≡ runTimes jobs rules buffer → Meaning jobs rules r t
-  unfolding solvedReply
-  means r t said left =
-      record {
-        plan = λ n x.
-            let (a, w, q) = answered _ (sym said ∙ ap solvedReply x) in
-            let end : solve jobs rules .end ≡ planned = ap (λ (v : Answer). v .end) w in
-            (rw (left, q) (demand-2 jobs rules a .plan-is end), rw (ap (λ (v : Answer). v .steps) w) at (run-facts a .plan-steps end));
-        none = λ n job x.
-            let (a, w, q) = answered _ (sym said ∙ ap solvedReply x) in
-            let end : solve jobs rules .end ≡ fell job = ap (λ (v : Answer). v .end) w in
-            (demand-2 jobs rules a .none-iff .0 (job, end), rw (ap (λ (v : Answer). v .steps) w) at (run-facts a .none-steps job end));
-      }

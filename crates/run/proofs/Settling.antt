@@ -135,13 +135,13 @@ module _ {rules : List Rule} {times : List ℤ} {marked i to : ℕ} (s : Settled
       below j h l v (yes m) = s .before j m l v
       below j h l v (no m) = absurd (true≢false (sym kept ∙ (ap (λ (n : ℕ). satisfied (ruleAt rules n) times) (omega arith) ∙ v)))
 
-  module _ {words : List ℕ} (reads : Reads rules words) (broken : satisfied rule times ≡ false) (named : rule .z < length times) where
+  module _ {words : List ℕ} (reads : Reads rules words) (violated : satisfied rule times ≡ false) (named : rule .z < length times) where
     abbrev left : ℤ
     left = leftSide rule times
 
     low : left ≤ℤ timeAt times (rule .z)
     unfolding satisfied
-    low = le-make (omega (arith, lt-read (le-false (timeAt times (rule .z)) left broken)))
+    low = le-make (omega (arith, lt-read (le-false (timeAt times (rule .z)) left violated)))
 
     -- a rule that reads the lowered job is in a block that is now marked
     read-or : (j : ℕ) → j < length rules → (satisfied (ruleAt rules j) times ≡ false → (j ≡ i → ⊥) → Marked marked (j / 16)) →

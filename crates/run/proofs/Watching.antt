@@ -14,7 +14,7 @@ use Rattle.derivation.specs.Step.{ruleAt}
 use Rattle.derivation.specs.Run.{pass, passBound, fallen, unfinished}
 use Rattle.derivation.proofs.AnyOrder.{each-at}
 use Rattle.derivation.proofs.Walks.{walk-pass}
-use Rattle.solver.specs.Replies.{Named, NamedAll}
+use Rattle.solver.specs.Rules.{Named, NamedAll}
 use Rattle.jump.specs.Leaps.{Passed, Sized}
 use Rattle.jump.proofs.Jumping.{passed-still}
 use Rattle.run.specs.Passing.{runOf, Looping}

@@ -6,7 +6,7 @@ ghost use Prim.Native.Nat.{ℕ, _<_, _≤_};
 ghost use lib.ListN.{length, getD};
 ghost use lib.IntN.{ℤ};
 ghost use Rattle.table.specs.Columns.{rulesOf, Columns};
-ghost use Rattle.solver.specs.Replies.{NamedAll};
+ghost use Rattle.solver.specs.Rules.{NamedAll};
 ghost use Rattle.run.specs.Blocks.{Marked, Marking, Reads};
 
 pub fn is_marked(word: u64, block: usize) -> bool

@@ -3,35 +3,24 @@ mod passing;
 
 ghost use mathlib.Core.Path.{_≡_};
 ghost use mathlib.Core.Bool.{Bool, true};
-ghost use Prim.Native.Nat.{ℕ, _<_, _≤_, min};
+ghost use Prim.Native.Nat.{ℕ, _<_, _≤_};
 ghost use lib.ListN.{length};
 ghost use lib.IntN.{ℤ};
-ghost use Rattle.maxatom.specs.Book.{Accepted, floor};
+ghost use Rattle.maxatom.specs.Book.{Accepted, floor, total};
 ghost use Rattle.derivation.specs.Run.{solve};
-ghost use Rattle.derivation.specs.Calls.{runReply, runTimes};
+ghost use Rattle.derivation.specs.Replies.{SolvedAs};
 ghost use Rattle.table.specs.Columns.{rulesOf, Columns};
 ghost use Rattle.jump.specs.Leaps.{Sized};
 ghost use Rattle.run.specs.Blocks.{Reads};
 ghost use Rattle.run.specs.Passing.{Looping};
-ghost use Rattle.run.specs.Replies.{solvedReply, SolvedAs, Meaning};
 use crate::blocks::index;
 use crate::passing::pass;
-use derivation::Refusal;
+use derivation::Solved;
 use jump::few;
 use jump::mark;
 use parts::jump_on;
 use solver::clear;
-use table::Checked;
-use table::check_times;
 use table::floor;
-use table::total;
-
-// Document 01: a plan with the steps of the run, or none with the steps and the job that fell.
-pub enum Solved {
-    Plan(u64),
-    None(u64, u16),
-    Refused(Refusal),
-}
 
 // The marks are to be trusted, since the pass was noted and no jump changed the times, and worth it.
 fn is_sparse(noted: bool, jumped: u64, steps: u64, count: usize) -> bool
@@ -245,21 +234,23 @@ fn stays_plain(i: usize, count: usize) -> bool
     (i - 16) * (count + 1) < 8192
 }
 
-// The run of an accepted book: plain passes, and for a long run then the watched ones. These get the columns by names of their own, which
-// a short run then need not lay out.
-fn solve_checked(
+// The bench run of an accepted book, whose K is k: plain passes, and for a long run then the watched ones. These get the columns by names
+// of their own, which a short run then need not lay out. The lent times hold the assignment as it stood at the end.
+pub fn solve(
     xs: &[u16],
     ys: &[u16],
     zs: &[u16],
     ks: &[i32],
     count: usize,
+    k: u32,
     times: &mut [i32],
 ) -> Solved
     requires { ⌜ Columns (now xs) (now ys) (now zs) (now ks) count ⌝ }
     requires { ⌜ Accepted (length (now times)) (rulesOf (now xs) (now ys) (now zs) (now ks) count) ⌝ }
+    requires { ⌜ k ≡ total (rulesOf (now xs) (now ys) (now zs) (now ks) count) ⌝ }
     ensures { λ r. ⌜ SolvedAs (solve (length (now (times .entry))) (rulesOf (now (xs .entry)) (now (ys .entry)) (now (zs .entry)) (now (ks .entry)) count)) r (now (times .exit)) ⌝ }
 {
-    let f = floor(total(xs, ys, zs, ks, count));
+    let f = floor(k);
     clear(times);
     let no_words: [u64; 1] = [0];
     let mut s: u64 = 0;
@@ -291,8 +282,8 @@ fn solve_checked(
             let x = xs;
             let y = ys;
             let z = zs;
-            let k = ks;
-            return finish_long(x, y, z, k, count, f, steps, times);
+            let o = ks;
+            return finish_long(x, y, z, o, count, f, steps, times);
         }
         s = steps;
         i += 1;
@@ -300,27 +291,6 @@ fn solve_checked(
     let x = xs;
     let y = ys;
     let z = zs;
-    let k = ks;
-    finish_long(x, y, z, k, count, f, s, times)
-}
-
-// The bench run: the plan, or none, on any arguments. The lent times hold the assignment as it stood at the end.
-pub fn solve(
-    n: usize,
-    xs: &[u16],
-    ys: &[u16],
-    zs: &[u16],
-    ks: &[i32],
-    count: usize,
-    times: &mut [i32],
-) -> Solved
-    requires { ⌜ Columns (now xs) (now ys) (now zs) (now ks) (min count 1024) ⌝ }
-    ensures said { λ r. ⌜ solvedReply r ≡ runReply n (rulesOf (now (xs .entry)) (now (ys .entry)) (now (zs .entry)) (now (ks .entry)) count) (now (times .entry)) ⌝ }
-    ensures left { λ r. ⌜ now (times .exit) ≡ runTimes n (rulesOf (now (xs .entry)) (now (ys .entry)) (now (zs .entry)) (now (ks .entry)) count) (now (times .entry)) ⌝ }
-    ensures means { λ r. ⌜ Meaning n (rulesOf (now (xs .entry)) (now (ys .entry)) (now (zs .entry)) (now (ks .entry)) count) r (now (times .exit)) ⌝ }
-{
-    match check_times(n, xs, ys, zs, ks, count, times) {
-        Checked::Refused(r) => Solved::Refused(r),
-        Checked::Accepted => solve_checked(xs, ys, zs, ks, count, times),
-    }
+    let o = ks;
+    finish_long(x, y, z, o, count, f, s, times)
 }

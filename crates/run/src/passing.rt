@@ -10,7 +10,7 @@ ghost use Rattle.maxatom.specs.Book.{floor};
 ghost use Rattle.maxatom.specs.Rule.{leftSide, satisfied};
 ghost use Rattle.derivation.specs.Run.{pass};
 ghost use Rattle.table.specs.Columns.{rulesOf, Columns};
-ghost use Rattle.solver.specs.Replies.{Named};
+ghost use Rattle.solver.specs.Rules.{Named};
 ghost use Rattle.run.specs.Blocks.{Reads, Settled, Tracked};
 ghost use Rattle.run.specs.Passing.{runOf, Running, Parted};
 use crate::blocks::is_marked;
@@ -33,7 +33,7 @@ pub struct PassOut {
 }
 
 // A rule is satisfied, where its left side is a number of 32 bits.
-fn is_kept(r: Rule, times: &[i32]) -> bool
+fn is_satisfied_32(r: Rule, times: &[i32]) -> bool
     requires { ⌜ Named r (length (now times)) ⌝ }
     requires { ⌜ SFits w32 (leftSide r (now times)) ⌝ }
     ensures { λ b. ⌜ b ≡ satisfied r (now (times .entry)) ⌝ }
@@ -79,7 +79,7 @@ fn part(
     let mut i = from;
     while i < to {
         let r = rule_at(xs, ys, zs, ks, i);
-        if is_kept(r, times) {
+        if is_satisfied_32(r, times) {
             i += 1;
         } else {
             let off = lower(r, times);

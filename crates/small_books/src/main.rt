@@ -1,11 +1,11 @@
 // Every book of up to two rules over two jobs, and of two rules over three, with offsets from -1 to 1: the bench run, hand steps in three
 // orders, and a search over all times from -6 to 0 must agree.
-ghost use Prim.Native.Nat.{_<_, _≤_, min};
-ghost use Rattle.table.specs.Columns.{Columns};
-use derivation::Tally;
-use run::Solved;
-use solver::FirstViolated;
-use solver::Stepped;
+ghost use Prim.Native.Nat.{_<_, _≤_};
+use planner::FirstViolated;
+use planner::Outcome;
+use planner::Rule;
+use planner::Solved;
+use planner::Tally;
 
 // Two rules over n jobs are a number: the low three digits to base n are the first rule's jobs, the next, to base 3, is its offset
 // and 1, and what is left is the second rule.
@@ -43,6 +43,28 @@ fn second(n: usize, c: usize) -> usize
     c / n / n / n / 3
 }
 
+// The first rule of a number.
+fn rule(n: usize, c: usize) -> Rule
+    requires { ⌜ 0 < n ⌝ }
+{
+    Rule {
+        x: job(n, c),
+        y: job(n, c / n),
+        z: job(n, c / n / n),
+        k: offset(n, c),
+    }
+}
+
+// A table that begins with both rules of a number; a book of fewer rules lends fewer places of it.
+fn table_of(n: usize, c: usize) -> [Rule; 1025]
+    requires { ⌜ 0 < n ⌝ }
+{
+    let mut table = lent::no_rules();
+    table[0] = rule(n, c);
+    table[1] = rule(n, second(n, c));
+    table
+}
+
 // What was found, and in how many steps: a plan at the times -a, -b and -e (kind 0), none (1), or what should not be (2 and more).
 // A job that the book has not stands at 0.
 struct Answer {
@@ -70,8 +92,8 @@ fn depth(p: Answer, job: u16) -> usize
     }
 }
 
-// The first rule is kept by the times.
-fn kept(n: usize, c: usize, p: Answer) -> bool
+// The first rule of a number is satisfied by the times.
+fn is_satisfied(n: usize, c: usize, p: Answer) -> bool
     requires { ⌜ 0 < n ⌝ }
 {
     let left = least(depth(p, job(n, c)), depth(p, job(n, c / n)));
@@ -79,15 +101,15 @@ fn kept(n: usize, c: usize, p: Answer) -> bool
     left < right + above(n, c)
 }
 
-fn all_kept(n: usize, count: usize, c: usize, p: Answer) -> bool
+fn all_satisfied(n: usize, count: usize, c: usize, p: Answer) -> bool
     requires { ⌜ 0 < n ⌝ }
 {
     match count {
         0 => true,
-        1 => kept(n, c, p),
+        1 => is_satisfied(n, c, p),
         _ => {
-            if kept(n, c, p) {
-                kept(n, second(n, c), p)
+            if is_satisfied(n, c, p) {
+                is_satisfied(n, second(n, c), p)
             } else {
                 false
             }
@@ -117,7 +139,7 @@ fn later(p: Answer, q: Answer) -> Answer {
     }
 }
 
-// The times of that number, out of 343.
+// The times of a number below 343.
 fn times_of(i: usize) -> Answer {
     Answer {
         kind: 0,
@@ -128,7 +150,7 @@ fn times_of(i: usize) -> Answer {
     }
 }
 
-// By search: the latest time of each job, which must make a plan together.
+// What a search finds: the latest time of each job, which must make a plan together.
 fn searched(n: usize, count: usize, c: usize) -> Answer
     requires { ⌜ 0 < n ⌝ }
 {
@@ -136,13 +158,13 @@ fn searched(n: usize, count: usize, c: usize) -> Answer
     let mut i = 0;
     while i < 343 {
         let p = times_of(i);
-        if all_kept(n, count, c, p) {
+        if all_satisfied(n, count, c, p) {
             best = later(best, p);
         }
         i += 1;
     }
     if best.kind == 0 {
-        if !all_kept(n, count, c, best) {
+        if !all_satisfied(n, count, c, best) {
             return bare(3, 0);
         }
     }
@@ -175,19 +197,9 @@ fn told(kind: usize, steps: u64, times: &[i32]) -> Answer {
     }
 }
 
-// By the bench run.
-fn solved(
-    n: usize,
-    xs: &[u16],
-    ys: &[u16],
-    zs: &[u16],
-    ks: &[i32],
-    count: usize,
-    times: &mut [i32],
-) -> Answer
-    requires { ⌜ Columns (now xs) (now ys) (now zs) (now ks) (min count 1024) ⌝ }
-{
-    match run::solve(n, xs, ys, zs, ks, count, times) {
+// What the bench run finds.
+fn solved(n: usize, table: [Rule; 1025], count: usize, times: &mut [i32]) -> Answer {
+    match lent::solve(n, table, count, times) {
         Solved::Plan(s) => told(0, s, times),
         Solved::None(s, _) => told(1, s, times),
         Solved::Refused(_) => told(2, 0, times),
@@ -211,24 +223,19 @@ fn named(order: usize, turn: usize, found: FirstViolated) -> usize {
     }
 }
 
-// One hand step; a rule that is kept or is not there is refused.
+// One hand step; a rule that is satisfied or is not there is refused.
 fn one_step(
     order: usize,
     turn: usize,
     n: usize,
-    xs: &[u16],
-    ys: &[u16],
-    zs: &[u16],
-    ks: &[i32],
+    table: [Rule; 1025],
     count: usize,
     times: &mut [i32],
     tally: Tally,
-) -> Tally
-    requires { ⌜ Columns (now xs) (now ys) (now zs) (now ks) (min count 1024) ⌝ }
-{
-    let found = solver::first_violated(n, xs, ys, zs, ks, count, times);
+) -> Tally {
+    let found = lent::first_violated(n, table, count, times);
     let number = named(order, turn, found);
-    let out = solver::step(n, xs, ys, zs, ks, count, times, tally, number);
+    let out = lent::step(n, table, count, times, tally, number);
     out.tally
 }
 
@@ -236,72 +243,45 @@ fn one_step(
 fn all_steps(
     order: usize,
     n: usize,
-    xs: &[u16],
-    ys: &[u16],
-    zs: &[u16],
-    ks: &[i32],
+    table: [Rule; 1025],
     count: usize,
     times: &mut [i32],
-) -> Tally
-    requires { ⌜ Columns (now xs) (now ys) (now zs) (now ks) (min count 1024) ⌝ }
-{
+) -> Tally {
     let mut tally = Tally {
         steps: 0,
         minutes: 0,
     };
     let mut turn = 0;
     while turn < 16 {
-        tally = one_step(order, turn, n, xs, ys, zs, ks, count, times, tally);
+        tally = one_step(order, turn, n, table, count, times, tally);
         turn += 1;
     }
     tally
 }
 
 // 1 where a board that shows none refused the step, else 2.
-fn fallen(said: Stepped) -> usize {
+fn fallen(said: Outcome) -> usize {
     match said {
-        Stepped::Done => 2,
-        Stepped::Refused(r) => { if r.number == 25 { 1 } else { 2 } }
+        Outcome::Done => 2,
+        Outcome::Refused(r) => { if r.number == 25 { 1 } else { 2 } }
     }
 }
 
-// How hand steps ended: 0 with all rules kept, 1 with a board that shows none, so that one more step is refused for that; else 2.
-fn ending(
-    n: usize,
-    xs: &[u16],
-    ys: &[u16],
-    zs: &[u16],
-    ks: &[i32],
-    count: usize,
-    times: &mut [i32],
-    tally: Tally,
-) -> usize
-    requires { ⌜ Columns (now xs) (now ys) (now zs) (now ks) (min count 1024) ⌝ }
-{
-    let more = solver::step(n, xs, ys, zs, ks, count, times, tally, 0);
+// How hand steps ended: 0 with all rules satisfied, 1 with a board that shows none, so that one more step is refused for that; else 2.
+fn ending(n: usize, table: [Rule; 1025], count: usize, times: &mut [i32], tally: Tally) -> usize {
+    let more = lent::step(n, table, count, times, tally, 0);
     let said = more.said;
-    match solver::first_violated(n, xs, ys, zs, ks, count, times) {
+    match lent::first_violated(n, table, count, times) {
         FirstViolated::Nothing => 0,
         FirstViolated::At(_) => fallen(said),
         FirstViolated::Refused(_) => 2,
     }
 }
 
-// By hand steps; the minutes of a plan must be the sum of the depths.
-fn by_hand(
-    order: usize,
-    n: usize,
-    xs: &[u16],
-    ys: &[u16],
-    zs: &[u16],
-    ks: &[i32],
-    count: usize,
-    times: &mut [i32],
-) -> Answer
-    requires { ⌜ Columns (now xs) (now ys) (now zs) (now ks) (min count 1024) ⌝ }
-{
-    let tally = all_steps(order, n, xs, ys, zs, ks, count, times);
-    let end = ending(n, xs, ys, zs, ks, count, times, tally);
+// What hand steps in an order find; the minutes of a plan must be the sum of the depths.
+fn by_hand(order: usize, n: usize, table: [Rule; 1025], count: usize, times: &mut [i32]) -> Answer {
+    let tally = all_steps(order, n, table, count, times);
+    let end = ending(n, table, count, times, tally);
     let p = told(end, tally.steps, times);
     let sum = depth(p, 0) + depth(p, 1) + depth(p, 2);
     if end == 0 {
@@ -325,41 +305,26 @@ fn same(p: Answer, q: Answer) -> bool {
     p.e == q.e
 }
 
-// What hand steps in an order make of a book; kind 2 where the run differs from them or from the search.
-fn agreed(
-    order: usize,
-    n: usize,
-    xs: &[u16],
-    ys: &[u16],
-    zs: &[u16],
-    ks: &[i32],
-    count: usize,
-    found: Answer,
-) -> Answer
+// What hand steps in an order find; kind 2 where the run differs from them or from the search.
+fn agreed(order: usize, n: usize, table: [Rule; 1025], count: usize, found: Answer) -> Answer
     requires { ⌜ n ≤ 3 ⌝ }
-    requires { ⌜ Columns (now xs) (now ys) (now zs) (now ks) (min count 1024) ⌝ }
 {
     let mut run: [i32; 3] = [0, 0, 0];
     let mut board: [i32; 3] = [0, 0, 0];
-    let r = solved(n, xs, ys, zs, ks, count, &mut run[0..n]);
-    let p = by_hand(order, n, xs, ys, zs, ks, count, &mut board[0..n]);
+    let r = solved(n, table, count, &mut run[0..n]);
+    let p = by_hand(order, n, table, count, &mut board[0..n]);
     if !same(found, r) {
         return bare(2, 0);
     }
     if same(r, p) { p } else { bare(2, 0) }
 }
 
-// The book of that number.
+// What is found of the book of a number.
 fn tried(order: usize, n: usize, count: usize, c: usize) -> Answer
-    requires { ⌜ (0 < n) × (n ≤ 3) × (count ≤ 2) ⌝ }
+    requires { ⌜ (0 < n) × (n ≤ 3) ⌝ }
 {
     let found = searched(n, count, c);
-    let d = second(n, c);
-    let xs: [u16; 2] = [job(n, c), job(n, d)];
-    let ys: [u16; 2] = [job(n, c / n), job(n, d / n)];
-    let zs: [u16; 2] = [job(n, c / n / n), job(n, d / n / n)];
-    let ks: [i32; 2] = [offset(n, c), offset(n, d)];
-    agreed(order, n, &xs, &ys, &zs, &ks, count, found)
+    agreed(order, n, table_of(n, c), count, found)
 }
 
 struct Counts {
@@ -392,7 +357,7 @@ fn counted(t: Counts, p: Answer) -> Counts {
 
 // All books of that many rules, which are `many`.
 fn books(order: usize, n: usize, count: usize, many: usize) -> Counts
-    requires { ⌜ (0 < n) × (n ≤ 3) × (count ≤ 2) ⌝ }
+    requires { ⌜ (0 < n) × (n ≤ 3) ⌝ }
 {
     let mut t = Counts {
         plans: 0,
@@ -414,7 +379,7 @@ fn say(word: &[u8], n: u64) {
 }
 
 fn show(name: &[u8], order: usize, n: usize, count: usize, many: usize)
-    requires { ⌜ (0 < n) × (n ≤ 3) × (count ≤ 2) ⌝ }
+    requires { ⌜ (0 < n) × (n ≤ 3) ⌝ }
 {
     let t = books(order, n, count, many);
     io::write_all(1, name);
@@ -429,7 +394,7 @@ fn show(name: &[u8], order: usize, n: usize, count: usize, many: usize)
 }
 
 fn orders(n: usize, count: usize, many: usize)
-    requires { ⌜ (0 < n) × (n ≤ 3) × (count ≤ 2) ⌝ }
+    requires { ⌜ (0 < n) × (n ≤ 3) ⌝ }
 {
     show(b"DOWN", 0, n, count, many);
     show(b"UP", 1, n, count, many);

@@ -6,10 +6,10 @@ ghost use lib.IntN.{ℤ, pos, natAbs};
 ghost use Rattle.maxatom.specs.Book.{NotAfterZero};
 ghost use Rattle.derivation.specs.Step.{inRange, belowFloor, sumZ, fits};
 ghost use Rattle.derivation.specs.Calls.{initialReply, initialTimes};
-ghost use Rattle.table.specs.Replies.{checkedReply};
+ghost use Rattle.derivation.specs.Replies.{outcomeReply};
+use derivation::Outcome;
 use derivation::Refusal;
 use derivation::Tally;
-use table::Checked;
 use table::floor;
 use table::size_of;
 
@@ -24,30 +24,30 @@ pub fn clear(times: &mut [i32])
 }
 
 // The initial assignment (fresh board): all jobs at zero.
-pub fn initial(n: usize, times: &mut [i32]) -> Checked
-    ensures { λ r. ⌜ checkedReply r ≡ initialReply n (now (times .entry)) ⌝ }
+pub fn initial(n: usize, times: &mut [i32]) -> Outcome
+    ensures { λ r. ⌜ outcomeReply r ≡ initialReply n (now (times .entry)) ⌝ }
     ensures { λ r. ⌜ now (times .exit) ≡ initialTimes n (now (times .entry)) ⌝ }
 {
     if n < 1 {
-        return Checked::Refused(Refusal {
+        return Outcome::Refused(Refusal {
             number: 4,
             place: 0,
         });
     }
     if 256 < n {
-        return Checked::Refused(Refusal {
+        return Outcome::Refused(Refusal {
             number: 4,
             place: 0,
         });
     }
     if times.len() != n {
-        return Checked::Refused(Refusal {
+        return Outcome::Refused(Refusal {
             number: 21,
             place: 0,
         });
     }
     clear(times);
-    Checked::Accepted
+    Outcome::Done
 }
 
 // Each time is from −2K to 0 (legal board).
@@ -70,12 +70,12 @@ pub fn in_range(times: &[i32], k: u32) -> bool
 }
 
 // Some time is below the floor (the board shows none).
-pub fn below_floor(times: &[i32], f: i32) -> bool
-    ensures { λ r. ⌜ r ≡ belowFloor f (now (times .entry)) ⌝ }
+pub fn below_floor(times: &[i32], floor: i32) -> bool
+    ensures { λ r. ⌜ r ≡ belowFloor floor (now (times .entry)) ⌝ }
 {
     let mut i = 0;
     while i < times.len() {
-        if times[i] < f {
+        if times[i] < floor {
             return true;
         }
         i += 1;

@@ -2,8 +2,7 @@
 use mathlib.Core.List.{List, [], _∷_}
 use Prim.Native.Nat.{ℕ, zero, suc, _+_, _≤_}
 use lib.ListN.{length, getD}
-use lib.IntN.{ℤ, pos, natAbs}
-use Rattle.maxatom.specs.Book.{Each}
+use lib.IntN.{ℤ, pos}
 use Rattle.maxatom.specs.declared.Rule.{Rule}
 
 -- the rule of a number
@@ -24,8 +23,3 @@ pub record Columns (xs ys zs : List ℕ) (ks : List ℤ) (count : ℕ) : Type 0 
   pub ylong : count ≤ length ys
   pub zlong : count ≤ length zs
   pub klong : count ≤ length ks
-
--- few rules, each with a small offset, so that their total fits
-pub record Small (rules : List Rule) : Type 0 where
-  pub few : length rules ≤ 1024
-  pub offsets : Each (λ (r : Rule). natAbs (r .k) ≤ 20160) rules

@@ -3,9 +3,11 @@
 use contract.Running.{givenOf, tables, tablesOf}
 use Rattle.walk.proofs.Kit.{refl, [], _∷_, lit<, take, URA, fullShare, w64, SProp, emp, id⊢, Memory, Routine, Heap, WpFn, Tables, Atoms, Fun, factI, Given, _$_, !, move, agg, whole, sub, look, of-opd, and-then, no-more, Meets, tripleOf, Triple, entered, cited}
 use Rattle.walk.proofs.Shapes.{uint, array, fits, slice-fits}
-use Rattle.walk.proofs.Steps.{meets, calls, calls-is, tidy, at, part, pointer, same, sets, lands-at, leaves}
+use Rattle.walk.proofs.Steps.{meets, calls, calls-is, tidy, at, part, pointer, same, sets, lands-at}
 use Rattle.walk.proofs.Lend.{to-local, first-val, address, lends-first, ends-first, lends-local, ends-local}
-use Rattle.lent.proofs.Types.{at-most-pars, derivation·Tally-shape, maxatom·Rule-shape, planner·step-pars, solver·stepping·StepOut-shape, solver·stepping·Stepped-shape, step-pars, with-tally-pars}
+use Rattle.walk.proofs.Loop.{holds, ends-walk}
+use Rattle.planner.proofs.Types.{derivation·Outcome-shape, derivation·Tally-shape, entries·choice·StepOut-shape, maxatom·Rule-shape, step-pars as planner·step-pars}
+use Rattle.lent.proofs.Types.{at-most-pars, step-pars, with-tally-pars}
 use Prim.Native.Nat.{min}
 use native.Mathlib.Nat.{min-le-right}
 use Rattle.lent.proofs.at_most as at-most-fn
@@ -19,7 +21,7 @@ module _ {M : Type 1} (𝓤 : URA M) (H : Heap 𝓤) (A : Atoms 𝓤) (W : Given
     (known-planner·step : Triple 𝓤 (𝓣 .C planner·step-fn.Symbol.name) (tripleOf 𝓤 H A planner·step-fn.signature (planner·step-fn.spec 𝓤 H A mem run)))
     (known-with-tally : Triple 𝓤 (𝓣 .C with-tally-fn.Symbol.name) (tripleOf 𝓤 H A with-tally-fn.signature (with-tally-fn.spec 𝓤 H A mem run))) where
   walk : Meets 𝓤 H A f.signature (WpFn 𝓤 H (𝓣 .C) (𝓣 .Λ) code.function) (f.spec 𝓤 H A mem run)
-  walk = meets 𝓤 H A W step-pars solver·stepping·StepOut-shape (f.clauses 𝓤 H A mem run) 𝓣 code.function (λ _. refl) (λ κs qs (n, (table, (count, (times, (tally, (number, _)))))) _ (n-is, (table-is, (count-is, (times-is, (tally-is, (number-is, _)))))) (l0, (l1, (l2, (l3, (l4, (l5, (l6, (l7, (l8, (l9, (l10, (l11, (l12, (l13, (l14, (l15, (l16, _))))))))))))))))).
+  walk = meets 𝓤 H A W step-pars entries·choice·StepOut-shape (f.clauses 𝓤 H A mem run) 𝓣 code.function (λ _. refl) (λ κs qs (n, (table, (count, (times, (tally, (number, _)))))) _ (n-is, (table-is, (count-is, (times-is, (tally-is, (number-is, _)))))) (l0, (l1, (l2, (l3, (l4, (l5, (l6, (l7, (l8, (l9, (l10, (l11, (l12, (l13, (l14, (l15, (l16, _))))))))))))))))).
       -- [_16 to _0; what is required; times's token; what times owns]
       sets ! (of-opd ! (at ! 28 refl)) 18 refl (fits W (array maxatom·Rule-shape 1025) table table-is) $
       calls-is W ! 𝓣 at-most-pars (uint w64) (at-most-fn.clauses 𝓤 H A mem run) known-at-most tt tt (count, tt) tt (id⊢ 𝓤 (emp 𝓤)) (count-is, tt)
@@ -31,25 +33,23 @@ module _ {M : Type 1} (𝓤 : URA M) (H : Heap 𝓤) (A : Atoms 𝓤) (W : Given
       sets ! (pointer ! 24 refl (sub ! 0 refl (whole !))) 6 refl (tt, tt) $
       sets ! (agg ! (and-then ! (at ! 6 refl) (and-then ! (part ! 24 1 refl (sub ! 1 refl (whole !))) (no-more !)))) 4 refl (slice-fits (times-is .0 .1 .0)) $
       sets ! (address !) 2 refl (tt, tt) $
-      move ! (18 ∷ []) $ lends-first ! tt maxatom·Rule-shape 1025 table (min count 1025) l7 (lit< tt, lit< tt) table-is (λ α7 γ7.
-      -- [_16 to _0, less _7; what is required; times's token; what times owns; lent7's token; what lent7 owns; lent7's way back; what lent7 leaves]
-      move ! (14 ∷ []) $ lends-local ! tt derivation·Tally-shape tally l9 tally-is (λ α9 γ9.
+      move ! (18 ∷ []) $ lends-first ! tt maxatom·Rule-shape 1025 table (min count 1025) l7 (lit< tt, lit< tt) table-is (λ α-lent7 γ-lent7.
+      move ! (14 ∷ []) $ lends-local ! tt derivation·Tally-shape tally l9 tally-is (λ α-lent9 γ-lent9.
       -- [_16 to _0, less _9, less _7; what is required; times's token; what times owns; lent7's token; what lent7 owns; lent7's way back; what lent7 leaves; lent9's token; what lent9 owns; lent9's way back]
-      move ! (35 ∷ 33 ∷ 39 ∷ 36 ∷ 34 ∷ 40 ∷ []) $ calls W ! 𝓣 planner·step-pars solver·stepping·Stepped-shape (planner·step-fn.clauses 𝓤 H A mem run) known-planner·step ((α7 ∷ []), (κs .0, ((α9 ∷ []), tt))) (fullShare, (qs .0, (fullShare, tt))) (n, ((to-local l7 γ7 (take (min count 1025) table)), (times, ((to-local l9 γ9 tally), (number, tt))))) tt (id⊢ 𝓤 (emp 𝓤)) (n-is, (number-is, tt))
-      _ (λ _ _. id⊢ 𝓤 _) (and-then ! (at ! 29 refl) (and-then ! (same ! (at ! 9 refl) (first-val l7 (min count 1025) 1025 table (table-is .1 .0 .1) (min-le-right count 1025))) (and-then ! (at ! 5 refl) (and-then ! (at ! 3 refl) (and-then ! (at ! 19 refl) (no-more !)))))) (λ r2 ws2 e2 len2 is2. lands-at ! 12 refl (fits W solver·stepping·Stepped-shape r2 is2) $
+      move ! (35 ∷ 33 ∷ 39 ∷ 36 ∷ 34 ∷ 40 ∷ []) $ calls W ! 𝓣 planner·step-pars derivation·Outcome-shape (planner·step-fn.clauses 𝓤 H A mem run) known-planner·step ((α-lent7 ∷ []), (κs .0, ((α-lent9 ∷ []), tt))) (fullShare, (qs .0, (fullShare, tt))) (n, ((to-local l7 γ-lent7 (take (min count 1025) table)), (times, ((to-local l9 γ-lent9 tally), (number, tt))))) tt (id⊢ 𝓤 (emp 𝓤)) (n-is, (number-is, tt))
+      _ (λ _ _. id⊢ 𝓤 _) (and-then ! (at ! 29 refl) (and-then ! (same ! (at ! 9 refl) (first-val l7 (min count 1025) 1025 table (table-is .1 .0 .1) (min-le-right count 1025))) (and-then ! (at ! 5 refl) (and-then ! (at ! 3 refl) (and-then ! (at ! 19 refl) (no-more !)))))) (λ r2 ws2 e2 len2 is2. lands-at ! 12 refl (fits W derivation·Outcome-shape r2 is2) $
       -- [_16 to _0, less _9, less _7; what is required; lent7's way back; what lent7 leaves; lent9's way back; lent7's token; times's token; lent9's token; times's last list; lent9's last value]
       move ! (36 ∷ 33 ∷ 34 ∷ []) $ ends-first ! tt maxatom·Rule-shape 1025 table (min count 1025) l7 table-is $
-      -- [_16 to _0, less _9, less _7; what is required; lent9's way back; times's token; lent9's token; times's last list; lent9's last value; _7]
-      move ! (35 ∷ 33 ∷ 37 ∷ []) $ ends-local ! tt derivation·Tally-shape l9 (ws2 .1 .1 .1 .0) (λ back9.
+      move ! (35 ∷ 33 ∷ 37 ∷ []) $ ends-local ! tt derivation·Tally-shape l9 (ws2 .1 .1 .1 .0) (λ back-lent9.
       -- [_16 to _0, less _9, less _7; what is required; times's token; times's last list; _7; _9]
-      sets ! (of-opd ! (at ! 36 refl)) 0 refl (fits W derivation·Tally-shape (ws2 .1 .1 .1 .0) back9) $
-      calls-is W ! 𝓣 with-tally-pars solver·stepping·StepOut-shape (with-tally-fn.clauses 𝓤 H A mem run) known-with-tally tt tt (r2, ((ws2 .1 .1 .1 .0), tt)) tt (id⊢ 𝓤 (emp 𝓤)) (is2, (back9, tt))
-      (record { said = r2; tally = (ws2 .1 .1 .1 .0) }) (λ _ _. id⊢ 𝓤 _) (and-then ! (at ! 13 refl) (and-then ! (at ! 1 refl) (no-more !))) (λ ws3 len3 is3. lands-at ! 30 refl (fits W solver·stepping·StepOut-shape (record { said = r2; tally = (ws2 .1 .1 .1 .0) }) is3) $
+      sets ! (of-opd ! (at ! 36 refl)) 0 refl (fits W derivation·Tally-shape (ws2 .1 .1 .1 .0) back-lent9) $
+      calls-is W ! 𝓣 with-tally-pars entries·choice·StepOut-shape (with-tally-fn.clauses 𝓤 H A mem run) known-with-tally tt tt (r2, ((ws2 .1 .1 .1 .0), tt)) tt (id⊢ 𝓤 (emp 𝓤)) (is2, (back-lent9, tt))
+      (record { said = r2; tally = (ws2 .1 .1 .1 .0) }) (λ _ _. id⊢ 𝓤 _) (and-then ! (at ! 13 refl) (and-then ! (at ! 1 refl) (no-more !))) (λ ws3 len3 is3. lands-at ! 30 refl (fits W entries·choice·StepOut-shape (record { said = r2; tally = (ws2 .1 .1 .1 .0) }) is3) $
       -- [_16 to _0, less _9, less _7; what is required; times's token; times's last list; _7; _9]
       move ! (0 ∷ 1 ∷ 2 ∷ 3 ∷ 4 ∷ 5 ∷ 6 ∷ 7 ∷ 8 ∷ 9 ∷ 10 ∷ 11 ∷ 12 ∷ 13 ∷ 36 ∷ 14 ∷ 15 ∷ 16 ∷ 35 ∷ 17 ∷ 18 ∷ 19 ∷ 20 ∷ 21 ∷ 22 ∷ 23 ∷ 24 ∷ 25 ∷ 26 ∷ 27 ∷ 28 ∷ 29 ∷ 30 ∷ 31 ∷ []) $
       -- [_16 to _0; what is required; times's token; times's last list]
-      tidy ! 34 (1 ∷ 1 ∷ []) $ leaves W ! step-pars solver·stepping·StepOut-shape (f.clauses 𝓤 H A mem run) κs qs (n, (table, (count, (times, (tally, (number, tt)))))) tt (record { said = r2; tally = (ws2 .1 .1 .1 .0) }) (tt, (tt, (tt, ((ws2 .1 .1 .0), (tt, (tt, tt)))))) (tt, (tt, (tt, ((len2 .0), (tt, (tt, tt)))))) is3
-      (factI 𝓤 _ (emp 𝓤) (e2)) (_ ∷ _ ∷ _ ∷ _ ∷ _ ∷ _ ∷ _ ∷ _ ∷ _ ∷ _ ∷ _ ∷ _ ∷ _ ∷ _ ∷ _ ∷ _ ∷ _ ∷ []) tt (look ! 32 refl))))))))
+      tidy ! 34 (1 ∷ 1 ∷ []) $ ends-walk W ! step-pars entries·choice·StepOut-shape (f.clauses 𝓤 H A mem run) κs qs (n, (table, (count, (times, (tally, (number, tt)))))) tt (record { said = r2; tally = (ws2 .1 .1 .1 .0) }) (tt, (tt, (tt, ((ws2 .1 .1 .0), (tt, (tt, tt)))))) (tt, (tt, (tt, ((len2 .0), (tt, (tt, tt)))))) is3
+      (factI 𝓤 _ (emp 𝓤) (e2)) (holds _ ∷ holds _ ∷ holds _ ∷ holds _ ∷ holds _ ∷ holds _ ∷ holds _ ∷ holds _ ∷ holds _ ∷ holds _ ∷ holds _ ∷ holds _ ∷ holds _ ∷ holds _ ∷ holds _ ∷ holds _ ∷ holds _ ∷ []) tt (look ! 32 refl))))))))
 
 pub step-spec : {M : Type 1} → f.Statement.statement M
 unfolding code.routine tablesOf

@@ -7,7 +7,7 @@ use denote.Ref.{now}
 use mir.Facts.{toZ-ofZ}
 use Rattle.maxatom.specs.declared.Rule.{Rule}
 use Rattle.table.specs.Columns.{rulesOf}
-use Rattle.solver.specs.Replies.{Named, NamedAll}
+use Rattle.solver.specs.Rules.{Named, NamedAll}
 use Rattle.jump.specs.Leaps.{Passed}
 use Rattle.jump.proofs.Taking.{at-each, named-each, proper-each, proper-passed}
 use Rattle.parts.proofs.apart_proper.Statement.{statement}

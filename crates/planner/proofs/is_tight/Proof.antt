@@ -1,37 +1,38 @@
--- `planner::is_tight` meets its contract: a walk of its MIR, written by walkgen.py. All that it knows of `load_any` and `loaded::is_tight` is that each meets its contract.
+-- `planner::is_tight` meets its contract: a walk of its MIR, written by walkgen.py. All that it knows of `choose` and `entries::tightness` is that each meets its contract.
 -- Assumes nothing.
 use contract.Running.{givenOf, tables, tablesOf}
-use Rattle.walk.proofs.Kit.{refl, [], _∷_, length, URA, w64, SProp, emp, id⊢, Memory, Routine, Heap, WpFn, Tables, Atoms, Fun, factI, Given, _$_, !, move, whole, sub, look, of-opd, and-then, no-more, now, Meets, tripleOf, Triple, entered, cited}
-use Rattle.walk.proofs.Shapes.{uint, array, fits}
-use Rattle.walk.proofs.Steps.{meets, calls, calls-is, tidy, at, part, sets, lands-at, leaves}
-use Rattle.planner.proofs.Types.{is-tight-pars, load-any-pars, loaded·is-tight-pars, maxatom·Rule-shape, solver·rule·Tightness-shape}
-use Rattle.walk.specs.Table.{padded}
-use Rattle.derivation.specs.Step.{noRule}
-use Rattle.planner.proofs.load_any as load-any-fn
-use Rattle.loaded.proofs.is_tight as loaded·is-tight-fn
+use Rattle.walk.proofs.Kit.{refl, _∙_, [], _∷_, length, URA, w64, SProp, emp, id⊢, Memory, Routine, Heap, WpFn, Tables, Atoms, Fun, factI, Given, _$_, !, move, whole, sub, look, of-opd, and-then, no-more, now, Meets, tripleOf, Triple, entered, cited}
+use Rattle.walk.proofs.Shapes.{uint, fits}
+use Rattle.walk.proofs.Steps.{meets, calls, calls-is, tidy, at, part, sets, lands-at}
+use Rattle.walk.proofs.Loop.{holds, ends-walk}
+use Rattle.planner.proofs.Types.{choose-pars, derivation·Tightness-shape, entries·choice·Chosen-shape, entries·tightness-pars, is-tight-pars}
+use Rattle.entries.specs.Choices.{chosenOf}
+use Rattle.entries.proofs.Choosing.{sound, tight-call}
+use Rattle.planner.proofs.choose as choose-fn
+use Rattle.entries.proofs.tightness as entries·tightness-fn
 use Rattle.planner.proofs.is_tight as f
 use Rattle.planner.proofs.is_tight.Code as code
 
 module _ {M : Type 1} (𝓤 : URA M) (H : Heap 𝓤) (A : Atoms 𝓤) (W : Given 𝓤 H A) (mem : Memory → SProp 𝓤) (run : Routine → Fun 𝓤) (𝓣 : Tables 𝓤 H)
-    (known-load-any : Triple 𝓤 (𝓣 .C load-any-fn.Symbol.name) (tripleOf 𝓤 H A load-any-fn.signature (load-any-fn.spec 𝓤 H A mem run)))
-    (known-loaded·is-tight : Triple 𝓤 (𝓣 .C loaded·is-tight-fn.Symbol.name) (tripleOf 𝓤 H A loaded·is-tight-fn.signature (loaded·is-tight-fn.spec 𝓤 H A mem run))) where
+    (known-choose : Triple 𝓤 (𝓣 .C choose-fn.Symbol.name) (tripleOf 𝓤 H A choose-fn.signature (choose-fn.spec 𝓤 H A mem run)))
+    (known-entries·tightness : Triple 𝓤 (𝓣 .C entries·tightness-fn.Symbol.name) (tripleOf 𝓤 H A entries·tightness-fn.signature (entries·tightness-fn.spec 𝓤 H A mem run))) where
   walk : Meets 𝓤 H A f.signature (WpFn 𝓤 H (𝓣 .C) (𝓣 .Λ) code.function) (f.spec 𝓤 H A mem run)
-  walk = meets 𝓤 H A W is-tight-pars solver·rule·Tightness-shape (f.clauses 𝓤 H A mem run) 𝓣 code.function (λ _. refl) (λ κs qs (n, (rules, (times, (number, _)))) _ (n-is, (rules-is, (times-is, (number-is, _)))) _.
+  walk = meets 𝓤 H A W is-tight-pars derivation·Tightness-shape (f.clauses 𝓤 H A mem run) 𝓣 code.function (λ _. refl) (λ κs qs (n, (rules, (times, (number, _)))) _ (n-is, (rules-is, (times-is, (number-is, _)))) _.
       -- [_6 to _0; what is required; rules's token; times's token; what rules owns; what times owns]
-      move ! (15 ∷ 17 ∷ []) $ calls-is W ! 𝓣 load-any-pars (array maxatom·Rule-shape 1024) (load-any-fn.clauses 𝓤 H A mem run) known-load-any (κs .0, tt) (qs .0, tt) (rules, tt) tt (id⊢ 𝓤 (emp 𝓤)) tt
-      (padded noRule 1024 (now rules)) (λ _ _. id⊢ 𝓤 _) (and-then ! (at ! 9 refl) (no-more !)) (λ ws1 len1 is1. lands-at ! 2 refl (fits W (array maxatom·Rule-shape 1024) (padded noRule 1024 (now rules)) is1) $
+      move ! (15 ∷ 17 ∷ []) $ calls-is W ! 𝓣 choose-pars entries·choice·Chosen-shape (choose-fn.clauses 𝓤 H A mem run) known-choose (κs .0, tt) (qs .0, tt) (n, (rules, (number, tt))) tt (id⊢ 𝓤 (emp 𝓤)) (n-is, (number-is, tt))
+      (chosenOf n number (now rules)) (λ _ _. id⊢ 𝓤 _) (and-then ! (at ! 11 refl) (and-then ! (at ! 9 refl) (and-then ! (at ! 5 refl) (no-more !)))) (λ ws1 len1 is1. lands-at ! 2 refl (fits W entries·choice·Chosen-shape (chosenOf n number (now rules)) is1) $
       -- [_6 to _0; what is required; times's token; what times owns; rules's token]
       sets ! (of-opd ! (part ! 8 1 refl (sub ! 1 refl (whole !)))) 0 refl (fits W (uint w64) (length (now rules)) (refl, rules-is .0 .1 .0)) $
-      move ! (15 ∷ 16 ∷ []) $ calls W ! 𝓣 loaded·is-tight-pars solver·rule·Tightness-shape (loaded·is-tight-fn.clauses 𝓤 H A mem run) known-loaded·is-tight (κs .1 .0, tt) (qs .1 .0, tt) (n, ((padded noRule 1024 (now rules)), ((length (now rules)), (times, (number, tt))))) tt (id⊢ 𝓤 (emp 𝓤)) (n-is, (is1, ((refl, rules-is .0 .1 .0), (number-is, tt))))
-      _ (λ _ _. id⊢ 𝓤 _) (and-then ! (at ! 11 refl) (and-then ! (at ! 3 refl) (and-then ! (at ! 1 refl) (and-then ! (at ! 7 refl) (and-then ! (at ! 5 refl) (no-more !)))))) (λ r2 ws2 e2 len2 is2. lands-at ! 12 refl (fits W solver·rule·Tightness-shape r2 is2) $
+      move ! (15 ∷ 16 ∷ []) $ calls W ! 𝓣 entries·tightness-pars derivation·Tightness-shape (entries·tightness-fn.clauses 𝓤 H A mem run) known-entries·tightness (κs .1 .0, tt) (qs .1 .0, tt) (n, ((length (now rules)), ((chosenOf n number (now rules)), (times, (number, tt))))) tt (factI 𝓤 _ (emp 𝓤) (sound n (now rules) number)) (n-is, ((refl, rules-is .0 .1 .0), (is1, (number-is, tt))))
+      _ (λ _ _. id⊢ 𝓤 _) (and-then ! (at ! 11 refl) (and-then ! (at ! 1 refl) (and-then ! (at ! 3 refl) (and-then ! (at ! 7 refl) (and-then ! (at ! 5 refl) (no-more !)))))) (λ r2 ws2 e2 len2 is2. lands-at ! 12 refl (fits W derivation·Tightness-shape r2 is2) $
       -- [_6 to _0; what is required; rules's token; times's token]
-      tidy ! 14 (1 ∷ 1 ∷ []) $ leaves W ! is-tight-pars solver·rule·Tightness-shape (f.clauses 𝓤 H A mem run) κs qs (n, (rules, (times, (number, tt)))) tt r2 (tt, (tt, (tt, (tt, tt)))) (tt, (tt, (tt, (tt, tt)))) is2
-      (factI 𝓤 _ (emp 𝓤) (e2 (now rules) (record { filled = refl; counted = refl }))) (_ ∷ _ ∷ _ ∷ _ ∷ _ ∷ _ ∷ _ ∷ []) tt (look ! 12 refl))))
+      tidy ! 14 (1 ∷ 1 ∷ []) $ ends-walk W ! is-tight-pars derivation·Tightness-shape (f.clauses 𝓤 H A mem run) κs qs (n, (rules, (times, (number, tt)))) tt r2 (tt, (tt, (tt, (tt, tt)))) (tt, (tt, (tt, (tt, tt)))) is2
+      (factI 𝓤 _ (emp 𝓤) (e2 ∙ tight-call n (now rules) number (now times))) (holds _ ∷ holds _ ∷ holds _ ∷ holds _ ∷ holds _ ∷ holds _ ∷ holds _ ∷ []) tt (look ! 12 refl))))
 
 pub is-tight-spec : {M : Type 1} → f.Statement.statement M
 unfolding code.routine tablesOf
 is-tight-spec 𝓤 H 𝓜 𝓖 𝓡 =
     entered 𝓤 H (tripleOf 𝓤 H (𝓖 .A) f.signature (f.spec 𝓤 H (𝓖 .A) (𝓜 .mem) (𝓡 .run))) (tables 𝓤 H 𝓜 𝓡 code.env .C) (tables 𝓤 H 𝓜 𝓡 code.env .Λ) f.Key.name code.function (code.unfolded 𝓤 H 𝓜 𝓡)
     (walk 𝓤 H (𝓖 .A) (givenOf 𝓤 H 𝓜 𝓖) (𝓜 .mem) (𝓡 .run) (tablesOf 𝓤 H 𝓜 (tables 𝓤 H 𝓜 𝓡 code.env))
-    (cited 𝓤 H (tripleOf 𝓤 H (𝓖 .A) load-any-fn.signature (load-any-fn.spec 𝓤 H (𝓖 .A) (𝓜 .mem) (𝓡 .run))) 𝓜 𝓡 code.env load-any-fn.Symbol.name load-any-fn.Symbol.routine code.calls-planner·load-any (load-any-fn.Met.met 𝓤 H 𝓜 𝓖 𝓡))
-    (cited 𝓤 H (tripleOf 𝓤 H (𝓖 .A) loaded·is-tight-fn.signature (loaded·is-tight-fn.spec 𝓤 H (𝓖 .A) (𝓜 .mem) (𝓡 .run))) 𝓜 𝓡 code.env loaded·is-tight-fn.Symbol.name loaded·is-tight-fn.Symbol.routine code.calls-loaded·is-tight (loaded·is-tight-fn.Met.met 𝓤 H 𝓜 𝓖 𝓡)))
+    (cited 𝓤 H (tripleOf 𝓤 H (𝓖 .A) choose-fn.signature (choose-fn.spec 𝓤 H (𝓖 .A) (𝓜 .mem) (𝓡 .run))) 𝓜 𝓡 code.env choose-fn.Symbol.name choose-fn.Symbol.routine code.calls-planner·choose (choose-fn.Met.met 𝓤 H 𝓜 𝓖 𝓡))
+    (cited 𝓤 H (tripleOf 𝓤 H (𝓖 .A) entries·tightness-fn.signature (entries·tightness-fn.spec 𝓤 H (𝓖 .A) (𝓜 .mem) (𝓡 .run))) 𝓜 𝓡 code.env entries·tightness-fn.Symbol.name entries·tightness-fn.Symbol.routine code.calls-entries·tightness (entries·tightness-fn.Met.met 𝓤 H 𝓜 𝓖 𝓡)))

@@ -7,10 +7,10 @@ use Rattle.small_books.proofs.all_steps.Statement.{statement}
 use Rattle.small_books.proofs.all_steps.Tie as tie
 
 abbrev Inv-loop : tie.InvT-loop
-Inv-loop order n xs ys zs ks count times₀ tally₀ turn₀ times tally turn = length times ≡ length times₀
+Inv-loop order n table count times₀ tally₀ turn₀ times tally turn = length times ≡ length times₀
 
 abbrev μ-loop : tie.MeasureT-loop
-μ-loop order n xs ys zs ks count times₀ tally₀ turn₀ times tally turn = 16 - turn
+μ-loop order n table count times₀ tally₀ turn₀ times tally turn = 16 - turn
 
 pub all-steps-spec : {M : Type 1} → statement M
 all-steps-spec =

@@ -2,7 +2,7 @@ use borrow.Author.Needs.{needs}
 use mathlib.Core.Path.{_≡_, refl}
 use borrow.Author.Tests.{le-leb, lt-leb}
 use Rattle.derivation.specs.Refusals.{jobOutside, offsetOutside}
-use Rattle.table.specs.Replies.{faultOf}
+use Rattle.table.specs.Faults.{faultOf}
 use Rattle.table.proofs.Signed.{told}
 use Rattle.table.proofs.fault.Statement.{statement}
 use Rattle.table.proofs.fault.Tie as tie

@@ -1,7 +1,7 @@
 use borrow.Author.Needs.{needs}
 use mathlib.Core.Path.{_≡_, sym, _∙_}
 use denote.Ref.{now}
-use Rattle.table.specs.Replies.{checkedReply}
+use Rattle.derivation.specs.Replies.{outcomeReply}
 use Rattle.bookfile.specs.Numbers.{word}
 use Rattle.bookfile.specs.Replies.{firstFault}
 use Rattle.bookfile.proofs.Records.{head-short, head-mark, head-cut, head-few, head-many, head-passes}
@@ -35,7 +35,7 @@ returns-5 c =
     ∙ sym (head-many _ (m .before .before .before .if1 .left) (passed m) (w .before .if3 .left) (rw (w .word2 .ensures) at (c .before .if5 .taken)))
 
 returns-6 : tie.Need-returns-6
-unfolding checkedReply
+unfolding outcomeReply
 returns-6 c =
     let w = c .before .before in
     let m = w .before .before in

@@ -3,20 +3,21 @@ use mathlib.Core.Path.{_≡_, sym, ap, _∙_}
 use Prim.Native.Nat.{ℕ}
 use denote.Ref.{now}
 use Rattle.derivation.specs.Refusals.{answer, verdict}
-use Rattle.table.specs.Replies.{checkedReply}
+use Rattle.derivation.specs.Replies.{outcomeReply}
 use Rattle.bookfile.specs.Reading.{headChecks, rulesFrom}
-use Rattle.bookfile.specs.Replies.{readOf, counted}
+use Rattle.derivation.specs.Replies.{readOf}
+use Rattle.bookfile.specs.Replies.{counted}
 use Rattle.bookfile.proofs.Walks.{file-refused, file-rest, head-long}
 use Rattle.bookfile.proofs.reading.examine.Statement.{statement}
 use Rattle.bookfile.proofs.reading.examine.Tie as tie
 
 passed : (c : tie.After-enum-told) → verdict (headChecks (now (c .before .before .before .before .args .file))) ≡ answer tt
-unfolding checkedReply
-passed c = sym (c .before .before .check-head .ensures) ∙ ap checkedReply (c .enum-told .given .1)
+unfolding outcomeReply
+passed c = sym (c .before .before .check-head .ensures) ∙ ap outcomeReply (c .enum-told .given .1)
 
 returns : tie.Need-returns
-unfolding checkedReply readOf
-returns c = file-refused _ (sym (c .before .before .before .check-head .ensures) ∙ ap checkedReply (c .before .r .given .1))
+unfolding outcomeReply readOf
+returns c = file-refused _ (sym (c .before .before .before .check-head .ensures) ∙ ap outcomeReply (c .before .r .given .1))
 
 returns-2 : tie.Need-returns-2
 returns-2 c =

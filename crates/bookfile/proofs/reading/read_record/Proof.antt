@@ -4,7 +4,7 @@ use Prim.Native.Nat.{_+_, _≤_}
 use native.Mathlib.Omega.{arith}
 use lib.ListN.{length}
 use denote.Ref.{now}
-use Rattle.table.specs.Replies.{faultOf}
+use Rattle.table.specs.Faults.{faultOf}
 use Rattle.bookfile.specs.Numbers.{word}
 use Rattle.bookfile.specs.Reading.{sizeOf, sizeAt, ruleAt}
 use Rattle.bookfile.specs.Replies.{markFault, itemReply}

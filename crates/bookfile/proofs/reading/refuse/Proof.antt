@@ -1,8 +1,8 @@
 use mathlib.Core.Path.{refl}
-use Rattle.table.specs.Replies.{checkedReply}
+use Rattle.derivation.specs.Replies.{outcomeReply}
 use Rattle.bookfile.proofs.reading.refuse.Statement.{statement}
 use Rattle.bookfile.proofs.reading.refuse.Tie as tie
 
 pub refuse-spec : {M : Type 1} → statement M
-unfolding checkedReply
+unfolding outcomeReply
 refuse-spec = tie.close (tie.spec (λ c. refl))

@@ -5,7 +5,8 @@ use native.Mathlib.Omega.{arith}
 use lib.ListN.{length}
 use denote.Ref.{now}
 use Rattle.bookfile.specs.Reading.{sizeAt}
-use Rattle.bookfile.specs.Replies.{itemReply, readOf}
+use Rattle.derivation.specs.Replies.{readOf}
+use Rattle.bookfile.specs.Replies.{itemReply}
 use Rattle.bookfile.proofs.Records.{size-bounds}
 use Rattle.bookfile.proofs.Rules.{Scanned, scanned-none, scanned-next, scanned-not, scanned-all}
 use Rattle.bookfile.proofs.reading.scan.Statement.{statement}

@@ -4,7 +4,7 @@ use mathlib.Core.Bool.{true, false}
 use Prim.Native.Nat.{_-_, _+_, _<_, _^_}
 use native.Mathlib.Omega.{arith}
 use denote.Ref.{now}
-use Rattle.maxatom.specs.Class.{idle}
+use Rattle.maxatom.specs.Class.{tautology}
 use Rattle.maxatom.specs.declared.Rule.{Rule}
 use Rattle.table.specs.Columns.{ruleOf}
 use Rattle.jump.specs.Leaps.{proper}
@@ -35,7 +35,7 @@ module _ (c : tie.After-is-tautology Inv-loop μ-loop) where
   read-is : c .before .rule-at .result ≡ rule at
   read-is = c .before .rule-at .ensures
 
-  told : c .is-tautology .result ≡ idle (rule at)
+  told : c .is-tautology .result ≡ tautology (rule at)
   told = rw (read-is) at (c .is-tautology .ensures)
 
 -- one more of each fits

@@ -10,8 +10,8 @@ use mir.Facts.{toZ-ofZ}
 use Rattle.maxatom.specs.Rule.{leftSide}
 use Rattle.maxatom.specs.declared.Rule.{Rule}
 use Rattle.table.specs.Columns.{ruleOf, rulesOf}
-use Rattle.solver.specs.Replies.{Named}
-use Rattle.jump.specs.Leaps.{BothKept, BothLow, StandBoth, Locked}
+use Rattle.solver.specs.Rules.{Named}
+use Rattle.jump.specs.Leaps.{BothSatisfied, BothLow, StandBoth, Locked}
 use Rattle.jump.specs.declared.lockstep.Stand.{Stand}
 use Rattle.jump.proofs.Jumping.{named-at, Locking, locking-none, locking-kept, locking-low, locking-all}
 use borrow.Author.Needs.{needs}

@@ -10,7 +10,7 @@ use mir.Val.{toZ, ofZ}
 use mir.Facts.{toZ-ofZ}
 use Rattle.maxatom.specs.Rule.{timeAt}
 use Rattle.maxatom.specs.declared.Rule.{Rule}
-use Rattle.solver.specs.Replies.{Named}
+use Rattle.solver.specs.Rules.{Named}
 use Rattle.jump.specs.Leaps.{oneArm, Stands, Steppable, by-first, by-second}
 use Rattle.jump.specs.declared.lockstep.Stand.{Stand}
 use Rattle.jump.proofs.lockstep.stand_both.Statement.{statement}

@@ -11,7 +11,7 @@ use mir.Facts.{toZ-ofZ}
 use Rattle.maxatom.specs.declared.Rule.{Rule}
 use Rattle.maxatom.proofs.Choose.{clash}
 use Rattle.table.specs.Columns.{ruleOf, rulesOf}
-use Rattle.solver.specs.Replies.{Named}
+use Rattle.solver.specs.Rules.{Named}
 use Rattle.jump.specs.Leaps.{Stands, Steppable, Walked}
 use Rattle.jump.specs.declared.lockstep.Stand.{Stand}
 use Rattle.jump.proofs.Jumping.{named-at, Walking, walking-none, walking-kept, walking-low, walking-all, walking-few}

@@ -14,7 +14,7 @@ use mir.Facts.{toZ-ofZ}
 use Rattle.maxatom.specs.declared.Rule.{Rule}
 use Rattle.maxatom.proofs.Choose.{clash}
 use Rattle.table.specs.Columns.{rulesOf, Columns}
-use Rattle.solver.specs.Replies.{NamedAll}
+use Rattle.solver.specs.Rules.{NamedAll}
 use Rattle.jump.specs.Leaps.{Sized}
 use Rattle.parts.specs.Parts.{Ahead}
 use Rattle.parts.proofs.Leftovers.{part-jobs}

@@ -7,7 +7,7 @@ use denote.Ref.{now}
 use lib.IntN.{ℤ}
 use lib.ListN.{length}
 use Rattle.table.specs.Columns.{rulesOf, Columns}
-use Rattle.solver.specs.Replies.{NamedAll}
+use Rattle.solver.specs.Rules.{NamedAll}
 use Rattle.parts.proofs.Leftovers.{part-jobs}
 use Rattle.parts.proofs.guessing.measure_part.Statement.{statement}
 use Rattle.parts.proofs.guessing.measure_part.Tie as tie

@@ -7,7 +7,7 @@ use lib.ListN.{length, getD}
 use mathlib.Core.List.{List, _∷_, _++_}
 use Rattle.maxatom.specs.declared.Rule.{Rule}
 use Rattle.table.specs.Columns.{ruleOf}
-use Rattle.solver.specs.Replies.{Named}
+use Rattle.solver.specs.Rules.{Named}
 use Rattle.jump.proofs.Jumping.{named-at}
 use Rattle.jump.proofs.Taking.{Filling, filling-none, filling-room, filling-skip, filling-put, filling-all}
 use Rattle.parts.specs.Parts.{labelAt, armsLeft, leftover, pick}

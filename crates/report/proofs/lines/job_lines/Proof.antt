@@ -1,6 +1,6 @@
 use borrow.Author.Needs.{needs, sfits-of}
-use mathlib.Core.Path.{_≡_, _∙_, ap}
-use mathlib.Core.List.{List, _++_}
+use mathlib.Core.Path.{ap}
+use mathlib.Core.List.{List}
 use Prim.Native.Nat.{ℕ, _+_, _-_, _*_, _≤_}
 use native.Mathlib.Omega.{arith}
 use lib.ListN.{length, drop, drop-of-length-le}

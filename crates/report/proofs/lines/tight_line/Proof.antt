@@ -1,7 +1,5 @@
 use borrow.Author.Needs.{needs}
-use mathlib.Core.Path.{_≡_, sym}
 use native.Mathlib.Omega.{arith}
-use denote.Ref.{now}
 use Rattle.report.specs.Report.{tightLine}
 use Rattle.report.proofs.Texts.{written-then}
 use Rattle.report.proofs.lines.tight_line.Statement.{statement}

@@ -1,13 +1,9 @@
-use borrow.Author.Needs.{needs}
-use mathlib.Core.Path.{_≡_, sym, ap, _∙_}
-use mathlib.Core.List.{List, _∷_, [], _++_}
-use Prim.Native.Nat.{ℕ, _+_, _<_, _≤_, _%_, _/_}
+use mathlib.Core.Path.{_∙_}
+use Prim.Native.Nat.{ℕ, _+_, _<_, _/_}
 use native.Mathlib.Omega.{arith}
-use lib.ListN.{length}
 use borrow.Fn.Kinds.{In}
 use borrow.Fn.PlainCycle.{Measures, is, falls, and}
-use Rattle.report.specs.Text.{Written, decimal}
-use Rattle.report.proofs.Texts.{written-then, written-length, decimal-last, decimal-more, decimal-length}
+use Rattle.report.proofs.Texts.{written-then, decimal-last, decimal-more, decimal-length}
 use Rattle.report.proofs.text.put_number.Reads as put-number
 use Rattle.report.proofs.text.put_number.Kinds as put-number-kinds
 use Rattle.report.proofs.text.+put_number.Lts-put_number as lts

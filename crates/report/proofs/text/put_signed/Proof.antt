@@ -1,14 +1,6 @@
 use borrow.Author.Needs.{needs}
 use native.Mathlib.Omega.{arith}
-use mathlib.Core.Path.{_≡_, ap, _∙_}
-use mathlib.Core.Bool.{true, false}
-use mathlib.Core.List.{_∷_}
-use Prim.Native.Nat.{ℕ}
-use lib.IntN.{ℤ, pos, negsuc, natAbs}
-use lib.Signed.{ltZ}
 use mir.Facts.{toZ-ofZ}
-use Rattle.maxatom.proofs.Choose.{clash}
-use Rattle.report.specs.Text.{Written, decimal, field, signedField}
 use Rattle.report.proofs.Texts.{written-then, below-text, above-text, decimal-length}
 use Rattle.report.proofs.text.put_signed.Statement.{statement}
 use Rattle.report.proofs.text.put_signed.Tie as tie

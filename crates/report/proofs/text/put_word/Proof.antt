@@ -1,10 +1,7 @@
 use borrow.Author.Needs.{needs}
-use mathlib.Core.Path.{_≡_, _∙_}
-use Prim.Native.Nat.{ℕ, _+_, _-_, _≤_}
+use Prim.Native.Nat.{_-_}
 use native.Mathlib.Omega.{arith}
-use lib.ListN.{length, take}
-use mathlib.Core.List.{List}
-use Rattle.report.specs.Text.{Written}
+use lib.ListN.{length}
 use Rattle.report.proofs.Texts.{written-length, Copied, copied-none, copied-next, copied-all}
 use Rattle.report.proofs.text.put_word.Statement.{statement}
 use Rattle.report.proofs.text.put_word.Tie as tie

@@ -5,7 +5,7 @@ use lib.ListN.{length}
 use denote.Ref.{now}
 use Rattle.table.specs.Columns.{ruleOf, rulesOf}
 use Rattle.table.proofs.Rows.{rows-at, rows-length}
-use Rattle.solver.specs.Replies.{Named}
+use Rattle.solver.specs.Rules.{Named}
 use Rattle.jump.proofs.Jumping.{named-at}
 use Rattle.run.proofs.Settling.{Indexing, indexing-none, indexing-next, indexed}
 use borrow.Author.Needs.{needs}

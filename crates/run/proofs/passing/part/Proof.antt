@@ -17,7 +17,7 @@ use Rattle.maxatom.specs.Book.{floor}
 use Rattle.maxatom.specs.declared.Rule.{Rule}
 use Rattle.derivation.specs.Run.{Run, fell}
 use Rattle.table.specs.Columns.{ruleOf, rulesOf}
-use Rattle.solver.specs.Replies.{Named}
+use Rattle.solver.specs.Rules.{Named}
 use Rattle.run.specs.Blocks.{Reads}
 use Rattle.solver.proofs.Laws.{named}
 use Rattle.run.proofs.Runs.{size-of, few-fit, fits-here, lowerable-here}
@@ -45,10 +45,10 @@ names : (l : tie.At-loop Inv-loop μ-loop) → l .loop .i < start l .args .to �
 names l h = rw (size-of (l .loop .inv .going .running)) (named _ _ _ _ _ _ (l .loop .inv .going .running .accepted) (omega (arith, within l)))
 
 -- the test is whether rule i is satisfied
-kept-is : (c : tie.After-is-kept Inv-loop μ-loop) →
+kept-is : (c : tie.After-is-satisfied-32 Inv-loop μ-loop) →
     let l = c .before .before .before .before in
-    c .is-kept .result ≡ satisfied (rule l) (l .loop .times)
-kept-is c = rw (c .before .before .rule-at .ensures) at (c .is-kept .ensures)
+    c .is-satisfied-32 .result ≡ satisfied (rule l) (l .loop .times)
+kept-is c = rw (c .before .before .rule-at .ensures) at (c .is-satisfied-32 .ensures)
 
 -- what is known where the rule is violated
 module _ (c : tie.Else1 Inv-loop μ-loop) where
@@ -58,8 +58,8 @@ module _ (c : tie.Else1 Inv-loop μ-loop) where
   has : at .loop .i < start at .args .to
   has = c .before .before .before .before .loop-test .taken
 
-  broken : satisfied (rule at) (at .loop .times) ≡ false
-  broken = sym (kept-is (c .before)) ∙ c .if1 .left
+  violated : satisfied (rule at) (at .loop .times) ≡ false
+  violated = sym (kept-is (c .before)) ∙ c .if1 .left
 
   read-is : c .before .before .before .rule-at .result ≡ rule at
   read-is = c .before .before .before .rule-at .ensures
@@ -109,7 +109,7 @@ part-spec =
     (λ c. search needs)
     (λ c. search needs)
     (λ c. let l = c .before .before .before .before .before in parting-kept (l .loop .inv) (within l) (c .before .before .before .before .loop-test .taken) (sym (kept-is (c .before)) ∙ c .if1 .taken))
-    (λ c κs. let e = c .before in rw (read-is e) (names (at e) (has e), lowerable-here (at e .loop .inv .going) (omega (arith, has e, within (at e))) (broken e)))
+    (λ c κs. let e = c .before in rw (read-is e) (names (at e) (has e), lowerable-here (at e .loop .inv .going) (omega (arith, has e, within (at e))) (violated e)))
     (λ c. omega (arith, few-fit (at (c .before .before .before) .loop .inv .going .running)))
     (λ c. search needs)
     (λ c. search needs)
@@ -120,7 +120,7 @@ part-spec =
     l .lower .kept .1 .0 ∙ size-of (at (l .before .before) .loop .inv .going .running))
     (λ c. let l = c .before .before .before .before in
     let e = l .before .before in (
-      parting-fell (at e .loop .inv) (within (at e)) (has e) (broken e) (lowered l) (falls (c .before) true (c .if2 .taken)) _ refl refl (ap (λ (r : Rule). r .z) (read-is e)),
+      parting-fell (at e .loop .inv) (within (at e)) (has e) (violated e) (lowered l) (falls (c .before) true (c .if2 .taken)) _ refl refl (ap (λ (r : Rule). r .z) (read-is e)),
       λ r q f. absurd (true≢false f),
     ))
     (λ c. search needs)
@@ -131,13 +131,13 @@ part-spec =
     (λ c. search needs)
     (λ c. let l = c .before .before .before .before .before .before .before in
     let e = l .before .before in
-    parting-low (at e .loop .inv) (within (at e)) (has e) (broken e) (lowered l) (falls (c .before .before .before .before) false (c .before .before .before .if2 .left)) (names (at e) (has e) .third) (noting (at e) (c .before .before .if3 .taken))
+    parting-low (at e .loop .inv) (within (at e)) (has e) (violated e) (lowered l) (falls (c .before .before .before .before) false (c .before .before .before .if2 .left)) (names (at e) (has e) .third) (noting (at e) (c .before .before .if3 .taken))
     (ap (λ (r : Rule). getD (now (start (at e) .args .words)) (r .z) 0) (read-is e)))
     (λ c. search needs)
     (λ c. search needs)
     (λ c. let l = c .before .before .before .before .before in
     let e = l .before .before in
-    parting-unnoted (at e .loop .inv) (within (at e)) (has e) (broken e) (lowered l) (falls (c .before .before) false (c .before .if2 .left)) (c .if3 .left))
+    parting-unnoted (at e .loop .inv) (within (at e)) (has e) (violated e) (lowered l) (falls (c .before .before) false (c .before .if2 .left)) (c .if3 .left))
     (λ c. size-of (c .before .loop .inv .going .running))
     (λ c. let l = c .before in
     let v = l .loop .inv in

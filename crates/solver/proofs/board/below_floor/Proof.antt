@@ -16,10 +16,10 @@ use Rattle.solver.proofs.board.below_floor.Statement.{statement}
 use Rattle.solver.proofs.board.below_floor.Tie as tie
 
 abbrev Inv-loop : tie.InvT-loop
-Inv-loop times f i₀ i = Scanned (belowFloor (toZ w32 f)) times i
+Inv-loop times floor i₀ i = Scanned (belowFloor (toZ w32 floor)) times i
 
 abbrev μ-loop : tie.MeasureT-loop
-μ-loop times f i₀ i = length times - i
+μ-loop times floor i₀ i = length times - i
 
 fits : (c : tie.After-if12 Inv-loop μ-loop) →
     let l = c .before .before in
@@ -29,7 +29,7 @@ fits c = sfits-of (c .if12 .given)
 returns : tie.Need-returns Inv-loop μ-loop
 returns c =
     let l = c .before .before .before in
-    rw (toZ-ofZ (l .before .fits .f)) at
+    rw (toZ-ofZ (l .before .fits .floor)) at
     (scanned-here (l .loop .inv) (omega arith) true (floor-here _ _ _ (rw (toZ-ofZ (fits (c .before))) at (c .if1 .taken))))
 
 loop-again : tie.Need-loop-again Inv-loop μ-loop
@@ -39,7 +39,7 @@ loop-again c =
 
 returns-2 : tie.Need-returns-2 Inv-loop μ-loop
 unfolding belowFloor
-returns-2 c = rw (toZ-ofZ (c .before .before .fits .f)) at (scanned-all (c .before .loop .inv) (c .loop-test .left))
+returns-2 c = rw (toZ-ofZ (c .before .before .fits .floor)) at (scanned-all (c .before .loop .inv) (c .loop-test .left))
 
 pub below-floor-spec : {M : Type 1} → statement M
 below-floor-spec =

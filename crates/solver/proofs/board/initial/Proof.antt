@@ -3,20 +3,20 @@ use mathlib.Core.Path.{_≡_, sym, ap, _∙_}
 use Prim.Native.Nat.{ℕ}
 use lib.ListN.{replicate}
 use lib.IntN.{pos}
-use Rattle.table.specs.Replies.{checkedReply}
+use Rattle.derivation.specs.Replies.{outcomeReply}
 use Rattle.solver.proofs.Laws.{initial-few, initial-many, initial-size, initial-done}
 use Rattle.solver.proofs.board.initial.Statement.{statement}
 use Rattle.solver.proofs.board.initial.Tie as tie
 
 returns-4 : tie.Need-returns-4
-unfolding checkedReply
+unfolding outcomeReply
 returns-4 c =
     let e = c .before .before .before in
     let d = initial-done _ _ (e .before .before .if1 .left) (e .before .if2 .left) (e .if3 .left) in
     (d .0, c .before .clear .ensures ∙ (ap (λ (n : ℕ). replicate n (pos 0)) (e .if3 .left) ∙ d .1))
 
 pub initial-spec : {M : Type 1} → statement M
-unfolding checkedReply
+unfolding outcomeReply
 initial-spec =
     tie.close
     (tie.spec

@@ -1,0 +1,3 @@
+pub mod Scans
+pub mod Models
+pub mod Choices
