@@ -1,5 +1,6 @@
-// Times the exported bench run against straight passes, on families of books (docs/PERFORMANCE.md).
-// With a word, only those with the word in their names. With --survey, a hundred other books of each random family. Ends with status 1 where an answer, a step count or a time differs.
+// Times the library's calls against straight C code, on families of books (docs/PERFORMANCE.md).
+// With a word, only the bench run on those with the word in their names; with `calls`, only the calls on everyday books. With --survey, a
+// hundred other books of each random family. Ends with status 1 where an answer, a step count or a time differs.
 #define _GNU_SOURCE
 #include <inttypes.h>
 #include <pthread.h>
@@ -11,83 +12,64 @@
 #include <time.h>
 #include <unistd.h>
 
-enum { JOBS = 256, RULES = 1024, OFFSET = 20160 };
-enum { PLAN = 0, NONE = 1 };
+#include "../embed/marlinfray.h"
+
+enum { JOBS = MARLINFRAY_MAX_JOBS, RULES = MARLINFRAY_MAX_RULES, OFFSET = MARLINFRAY_MAX_OFFSET };
 
 typedef struct {
     size_t n, count;
-    uint16_t x[RULES], y[RULES], z[RULES];
-    int32_t k[RULES];
+    marlinfray_rule rules[]; // `count` of them
 } Book;
 
-// The reply's three words, and the times.
 typedef struct {
-    uint64_t words[3];
+    marlinfray_reply reply;
     int32_t times[JOBS];
 } Out;
 
-extern void marlinfray_solve(size_t n, const uint16_t *xs, size_t xs_len, const uint16_t *ys, size_t ys_len,
-                             const uint16_t *zs, size_t zs_len, const int32_t *ks, size_t ks_len,
-                             int32_t *times, size_t times_len, uint64_t reply[3]);
-
 static void solve(const Book *b, Out *o) {
-    marlinfray_solve(b->n, b->x, b->count, b->y, b->count, b->z, b->count, b->k, b->count, o->times, b->n, o->words);
+    marlinfray_solve(b->n, b->rules, b->count, o->times, b->n, &o->reply);
 }
 
-// Calls that are refused, as C makes them: 0 where each says its number and place and leaves the times alone.
-static int refusals(void) {
-    static const struct {
-        size_t n, ks_len, times_len;
-        uint16_t z;
-        int32_t k;
-        uint64_t number, place;
-    } calls[] = {
-        {0, 2, 0, 0, 0, 4, 0},      {257, 2, 257, 0, 0, 4, 0}, {2, 2, 2, 2, 0, 6, 1}, {2, 2, 2, 1, -OFFSET - 1, 7, 1},
-        {2, 2, 1, 1, 0, 21, 0},     {2, 1, 2, 2, 0, 21, 0},
-    };
-    int wrong = 0;
-    for (size_t i = 0; i < sizeof calls / sizeof *calls; i++) {
-        uint16_t x[2] = {0, 1}, z[2] = {0, calls[i].z};
-        int32_t k[2] = {0, calls[i].k}, times[JOBS + 1] = {7, 7};
-        uint64_t reply[3] = {9, 9, 9};
-        marlinfray_solve(calls[i].n, x, 2, x, 2, z, 2, k, calls[i].ks_len, times, calls[i].times_len, reply);
-        wrong |= reply[0] != 2 || reply[1] != calls[i].number || reply[2] != calls[i].place || times[0] != 7 || times[1] != 7;
-    }
-    return wrong;
+// ---- straight code ----
+
+static int refuse(marlinfray_reply *reply, uint64_t number, uint64_t place) {
+    *reply = (marlinfray_reply){MARLINFRAY_REFUSED, number, place};
+    return 1;
 }
 
-// ---- straight passes ----
-
-// The floor of a book that isn't refused, else 1: the same checks as solve's.
-static int32_t floor_of(size_t n, const uint16_t *xs, const uint16_t *ys, const uint16_t *zs, const int32_t *ks, size_t count) {
+// The floor of a book that isn't refused, else 1 and the refusal: the same checks as the library's.
+static int32_t floor_of(size_t n, const marlinfray_rule *rules, size_t count, size_t times_len, marlinfray_reply *reply) {
     int32_t f = 0;
-    if (n < 1 || JOBS < n || RULES < count)
-        return 1;
+    if (n < 1 || JOBS < n)
+        return refuse(reply, MARLINFRAY_REFUSED_JOBS, 0);
+    if (RULES < count)
+        return refuse(reply, MARLINFRAY_REFUSED_RULES, 0);
     for (size_t i = 0; i < count; i++) {
-        if (n <= xs[i] || n <= ys[i] || n <= zs[i] || ks[i] < -OFFSET || OFFSET < ks[i])
-            return 1;
-        f -= abs(ks[i]);
+        if (n <= rules[i].x || n <= rules[i].y || n <= rules[i].z)
+            return refuse(reply, MARLINFRAY_REFUSED_JOB, i);
+        if (rules[i].k < -OFFSET || OFFSET < rules[i].k)
+            return refuse(reply, MARLINFRAY_REFUSED_OFFSET, i);
+        f -= abs(rules[i].k);
     }
-    return f;
+    return times_len == n ? f : refuse(reply, MARLINFRAY_REFUSED_LENGTH, 0);
 }
 
 // One pass over all rules, with a step on each violated one; 1 when the run has ended.
-static int pass(const uint16_t *xs, const uint16_t *ys, const uint16_t *zs, const int32_t *ks, size_t count, int32_t floor, int32_t *times,
-                uint64_t reply[3]) {
-    uint64_t before = reply[1], steps = before;
+static int pass(const marlinfray_rule *rules, size_t count, int32_t floor, int32_t *times, marlinfray_reply *reply) {
+    uint64_t before = reply->first, steps = before;
     for (size_t i = 0; i < count; i++) {
-        int32_t p = times[xs[i]], q = times[ys[i]];
-        int32_t left = (p > q ? p : q) + ks[i];
-        if (left < times[zs[i]]) {
-            times[zs[i]] = left;
+        int32_t p = times[rules[i].x], q = times[rules[i].y];
+        int32_t left = (p > q ? p : q) + rules[i].k;
+        if (left < times[rules[i].z]) {
+            times[rules[i].z] = left;
             steps++;
             if (left < floor) {
-                reply[0] = NONE, reply[1] = steps, reply[2] = zs[i];
+                *reply = (marlinfray_reply){MARLINFRAY_NONE, steps, rules[i].z};
                 return 1;
             }
         }
     }
-    reply[0] = PLAN, reply[1] = steps, reply[2] = 0;
+    *reply = (marlinfray_reply){MARLINFRAY_PLAN, steps, 0};
     return steps == before;
 }
 
@@ -103,30 +85,26 @@ static double limit, per_step;
 
 // A straight run: its passes, or 0 where the limit came first. Called as solve is, and compiled for any book, not for the one address
 // that it is called with here.
-__attribute__((noipa)) static uint64_t straight_passes(size_t n, const uint16_t *xs, size_t xs_len, const uint16_t *ys, size_t ys_len,
-                                                       const uint16_t *zs, size_t zs_len, const int32_t *ks, size_t ks_len,
-                                                       int32_t *times, size_t times_len, uint64_t reply[3]) {
-    size_t count = xs_len;
-    if (ys_len != count || zs_len != count || ks_len != count)
-        return reply[0] = 2, 0;
-    int32_t floor = floor_of(n, xs, ys, zs, ks, count);
-    if (0 < floor || times_len != n)
-        return reply[0] = 2, 0;
-    memset(reply, 0, 3 * sizeof *reply);
+__attribute__((noipa)) static uint64_t straight_passes(size_t n, const marlinfray_rule *rules, size_t rules_len, int32_t *times,
+                                                       size_t times_len, marlinfray_reply *reply) {
+    int32_t floor = floor_of(n, rules, rules_len, times_len, reply);
+    if (0 < floor)
+        return 0;
+    memset(reply, 0, sizeof *reply);
     memset(times, 0, n * sizeof *times);
     double start = 0, half = 0;
     uint64_t steps_at_half = 0;
     for (uint64_t passes = 1;; passes++) {
-        if (pass(xs, ys, zs, ks, count, floor, times, reply))
+        if (pass(rules, rules_len, floor, times, reply))
             return passes;
         if (passes % 1024 == 0) {
             double t = now();
             if (!start)
                 start = t;
             if (!half && limit / 2 < t - start)
-                half = t, steps_at_half = reply[1];
+                half = t, steps_at_half = reply->first;
             if (limit < t - start) {
-                per_step = (t - half) / (reply[1] - steps_at_half);
+                per_step = (t - half) / (reply->first - steps_at_half);
                 return 0;
             }
         }
@@ -134,21 +112,66 @@ __attribute__((noipa)) static uint64_t straight_passes(size_t n, const uint16_t 
 }
 
 static uint64_t straight(const Book *b, Out *o) {
-    return straight_passes(b->n, b->x, b->count, b->y, b->count, b->z, b->count, b->k, b->count, o->times, b->n, o->words);
+    return straight_passes(b->n, b->rules, b->count, o->times, b->n, &o->reply);
+}
+
+// The larger of x and y, plus k, whatever the times are.
+static int64_t left_side(marlinfray_rule r, const int32_t *times) {
+    int32_t p = times[r.x], q = times[r.y];
+    return (int64_t)(p > q ? p : q) + r.k;
+}
+
+// The kept test and the hand step, called and compiled in the same way.
+__attribute__((noipa)) static void straight_first_violated(size_t n, const marlinfray_rule *rules, size_t rules_len, const int32_t *times,
+                                                           size_t times_len, marlinfray_reply *reply) {
+    if (0 < floor_of(n, rules, rules_len, times_len, reply))
+        return;
+    for (size_t i = 0; i < rules_len; i++)
+        if (left_side(rules[i], times) < times[rules[i].z]) {
+            *reply = (marlinfray_reply){MARLINFRAY_VIOLATED, i, 0};
+            return;
+        }
+    *reply = (marlinfray_reply){MARLINFRAY_SATISFIED, 0, 0};
+}
+
+__attribute__((noipa)) static int straight_step(size_t n, const marlinfray_rule *rules, size_t rules_len, int32_t *times, size_t times_len,
+                                                marlinfray_tally *tally, size_t number, marlinfray_reply *reply) {
+    int32_t floor = floor_of(n, rules, rules_len, times_len, reply), least = 0;
+    uint64_t minutes = 0;
+    if (0 < floor)
+        return 1;
+    for (size_t i = 0; i < n; i++) {
+        if (times[i] < 2 * floor || 0 < times[i])
+            return refuse(reply, MARLINFRAY_REFUSED_RANGE, 0);
+        minutes -= times[i];
+        least = times[i] < least ? times[i] : least;
+    }
+    if (tally->minutes != minutes || minutes < tally->steps)
+        return refuse(reply, MARLINFRAY_REFUSED_TALLY, 0);
+    if (rules_len <= number)
+        return refuse(reply, MARLINFRAY_REFUSED_NUMBER, 0);
+    if (least < floor)
+        return refuse(reply, MARLINFRAY_REFUSED_FLOOR, 0);
+    int32_t *time = &times[rules[number].z];
+    int64_t left = left_side(rules[number], times);
+    if (*time <= left)
+        return refuse(reply, MARLINFRAY_REFUSED_SATISFIED, 0);
+    tally->steps++;
+    tally->minutes += *time - left;
+    *time = left;
+    *reply = (marlinfray_reply){MARLINFRAY_DONE, 0, 0};
+    return 0;
 }
 
 // ---- families ----
 
 static void rule(Book *b, int x, int y, int k, int z) {
-    b->x[b->count] = x, b->y[b->count] = y, b->z[b->count] = z, b->k[b->count] = k;
-    b->count++;
+    b->rules[b->count++] = (marlinfray_rule){x, y, z, k};
 }
 
 static void swap(Book *b, size_t i, size_t j) {
-    uint16_t x = b->x[i], y = b->y[i], z = b->z[i];
-    int32_t k = b->k[i];
-    b->x[i] = b->x[j], b->y[i] = b->y[j], b->z[i] = b->z[j], b->k[i] = b->k[j];
-    b->x[j] = x, b->y[j] = y, b->z[j] = z, b->k[j] = k;
+    marlinfray_rule r = b->rules[i];
+    b->rules[i] = b->rules[j], b->rules[j] = r;
 }
 
 static uint64_t seed;
@@ -405,7 +428,7 @@ static const Family families[] = {
     {"four random rings, 600 rules", random_rings, OFFSET, 4, 600, 20, 17},
     {"five random rings, 600 rules", random_rings, OFFSET, 5, 600, 20, 18},
     {"five random rings, 1,024 rules", random_rings, OFFSET, 5, 1024, 20, 20},
-    {"rings of 83, 85 and 87 at one rate, and a job below", followed, OFFSET, 3, 0, 0, 0},
+    {"rings of 83, 85 and 87 at one rate, and a job below", followed, OFFSET, 3, 0, 2000, 0},
     {"ring of 2, offsets of 1 minute", one_ring, 1, 2, FORWARD, 0, 0},
     {"ring of 2", one_ring, OFFSET, 2, FORWARD, 0, 0},
     {"ring of 2, reverse", one_ring, OFFSET, 2, REVERSE, 0, 0},
@@ -418,11 +441,12 @@ static const Family families[] = {
     {"85 counters with limits of their own", counters, 900, 85, 0, 0, 13},
 };
 
-// A random family has a book for each variant; the others have one.
-static void make(const Family *f, int offset, int variant, Book *b) {
-    memset(b, 0, sizeof *b);
+// A random family has a book for each variant; the others have one. It takes no more memory than its rules need.
+static Book *make(const Family *f, int offset, int variant) {
+    Book *b = calloc(1, sizeof *b + RULES * sizeof *b->rules);
     seed = f->seed + 1000 * variant;
     f->make(b, offset, f->a, f->b);
+    return realloc(b, sizeof *b + b->count * sizeof *b->rules);
 }
 
 // ---- timing ----
@@ -432,17 +456,55 @@ static int by_size(const void *a, const void *b) {
     return (p > q) - (p < q);
 }
 
-// Seconds: a batch of short calls, the most for straight passes, the most for the run.
-enum { BATCHES = 15, LIMIT = 2, PATIENCE = 20, VARIANTS = 16 };
-static const double BATCH = 0.01;
+// Seconds: the most for straight passes, the most for the run; a batch of short calls, and a round over all variants of a book.
+enum { LIMIT = 2, PATIENCE = 20 };
+static const double BATCH = 0.01, ROUND = 0.2;
+enum { BATCHES = 15, VARIANTS = 1024 };
 
 static double median(double *t, int count) {
     qsort(t, count, sizeof *t, by_size);
     return t[count / 2];
 }
 
+// Makes a call on one of the variants, which are numbered from 0.
+typedef void Call(int variant);
+
+// Seconds of a fast and of a slow call: the median of batches that the two make by turns, each over all variants. `once` is about what
+// both take together, or 0; where `both` is 0 there is no slow call.
+__attribute__((always_inline)) static inline void by_turns(Call *fast, Call *slow, int both, int variants, double once, double *fast_time,
+                                                           double *slow_time) {
+    // short calls are made in batches, and their first calls were made with cold caches
+    if (once < 0.001) {
+        int rounds = 1 + 100 / variants;
+        double t = now();
+        for (int r = 0; r < rounds; r++)
+            for (int v = 0; v < variants; v++) {
+                fast(v);
+                if (both)
+                    slow(v);
+            }
+        once = (now() - t) / rounds / variants;
+    }
+    int rounds = 1 + BATCH / once / variants, batches = once < 0.5 ? BATCHES : once < 5 ? 3 : 1;
+    double fasts[BATCHES], slows[BATCHES];
+    for (int i = 0; i < batches; i++) {
+        double t = now();
+        for (int r = 0; r < rounds; r++)
+            for (int v = 0; v < variants; v++)
+                fast(v);
+        fasts[i] = (now() - t) / rounds / variants;
+        t = now();
+        for (int r = 0; both && r < rounds; r++)
+            for (int v = 0; v < variants; v++)
+                slow(v);
+        slows[i] = (now() - t) / rounds / variants;
+    }
+    *fast_time = median(fasts, batches);
+    *slow_time = median(slows, batches);
+}
+
 static int same(const Book *b, const Out *o, const Out *p) {
-    return !memcmp(o->words, p->words, sizeof o->words) && !memcmp(o->times, p->times, b->n * sizeof *o->times);
+    return !memcmp(&o->reply, &p->reply, sizeof o->reply) && !memcmp(o->times, p->times, b->n * sizeof *o->times);
 }
 
 // Three digits and no exponent, with commas.
@@ -476,14 +538,24 @@ static void patient_solve(const Book *b, Out *o) {
     alarm(0);
 }
 
+// The variants of the book that is timed, and what was said of the last.
+static Book *books[VARIANTS];
+static Out fast, slow;
+
+static void fast_call(int variant) {
+    solve(books[variant], &fast);
+}
+
+static void slow_call(int variant) {
+    straight(books[variant], &slow);
+}
+
 // One line of the table; 0 where the answers agree.
 static int measure(const Family *f) {
-    static Book b[VARIANTS];
-    static Out fast, slow;
     double t;
     limit = 60;
     if (f->sister) {
-        make(f, f->sister, 0, b);
+        Book *b = make(f, f->sister, 0);
         patient_solve(b, &fast);
         if (!straight(b, &slow) || !same(b, &fast, &slow)) {
             printf("| %s | | | | | | DIFFERS | |\n", f->name);
@@ -491,59 +563,40 @@ static int measure(const Family *f) {
         }
     }
 
-    make(f, f->offset, 0, b);
+    Book *b = books[0] = make(f, f->offset, 0);
     t = now();
     patient_solve(b, &fast);
-    double fast_once = now() - t;
+    double once = now() - t;
     t = now();
     limit = LIMIT;
     uint64_t passes = straight(b, &slow);
-    double slow_once = now() - t;
-    limit = 60;
+    once += passes ? now() - t : 0;
 
     int differs = passes ? !same(b, &fast, &slow) : !f->sister;
 
-    const char *answer = fast.words[0] == PLAN ? "plan" : fast.words[0] == NONE ? "none" : "refused";
+    uint64_t steps = fast.reply.first;
+    const char *answer = fast.reply.kind == MARLINFRAY_PLAN ? "plan" : fast.reply.kind == MARLINFRAY_NONE ? "none" : "refused";
     printf("| %s | %zu | %zu | %s | ", f->name, b->n, b->count, answer);
     if (passes)
         printf("%" PRIu64, passes);
-    printf(" | %" PRIu64 " | ", fast.words[1]);
+    printf(" | %" PRIu64 " | ", steps);
 
     // of a random book that is answered soon, variants by turns: else the processor learns the one book's steps by heart
-    uint64_t steps = fast.words[1];
-    int variants = f->seed && passes && fast_once + slow_once < 0.001 ? VARIANTS : 1;
-    for (int i = 1; i < variants; i++) {
-        make(f, f->offset, i, b + i);
-        solve(b + i, &fast);
-        straight(b + i, &slow);
-        differs |= !same(b + i, &fast, &slow);
+    int variants = 1;
+    double start = now();
+    while (f->seed && passes && variants < VARIANTS && now() - start + once < ROUND) {
+        books[variants] = make(f, f->offset, variants);
+        patient_solve(books[variants], &fast);
+        if (straight(books[variants], &slow)) {
+            differs |= !same(books[variants], &fast, &slow);
+            variants++;
+        }
     }
 
-    // short calls in batches, the two by turns; the first calls were made with cold caches
-    double once = fast_once + (passes ? slow_once : 0);
-    if (once < 0.001) {
-        t = now();
-        for (int j = 0; j < 100; j++) {
-            solve(b + j % variants, &fast);
-            if (passes)
-                straight(b + j % variants, &slow);
-        }
-        once = (now() - t) / 100;
-    }
-    int calls = 1 + BATCH / once, batches = once < 0.5 ? BATCHES : once < 5 ? 3 : 1;
-    double fasts[BATCHES], slows[BATCHES];
-    for (int i = 0; i < batches; i++) {
-        t = now();
-        for (int j = 0; j < calls; j++)
-            solve(b + j % variants, &fast);
-        fasts[i] = (now() - t) / calls;
-        t = now();
-        for (int j = 0; passes && j < calls; j++)
-            straight(b + j % variants, &slow);
-        slows[i] = (now() - t) / calls;
-    }
-    double fast_time = median(fasts, batches);
-    double slow_time = passes ? median(slows, batches) : per_step * steps;
+    double fast_time, slow_time;
+    by_turns(fast_call, slow_call, passes != 0, variants, once, &fast_time, &slow_time);
+    if (!passes)
+        slow_time = per_step * steps;
 
     printf("%s%s | %s |%s\n", passes ? "" : "~", number(slow_time / fast_time), number(fast_time * 1e3), differs ? " DIFFERS" : "");
     return differs;
@@ -573,21 +626,19 @@ static double timed(const Book *b, Out *o, int by_straight, uint64_t *passes) {
 // Other books of a random family: how many straight passes finish in a tenth of a second, the least ratio and how many are below 0.9 among
 // these, and the longest solve of all. 0 where the answers agree.
 static int survey(const Family *f) {
-    static Book b;
-    static Out fast, slow;
     int finished = 0, low = 0, differs = 0;
     double least = 1e300, longest = 0;
     limit = 0.1;
     for (int i = 1; i <= SURVEYED; i++) {
         uint64_t passes, one;
-        make(f, f->offset, i, &b);
-        double t = timed(&b, &fast, 0, &one), u = timed(&b, &slow, 1, &passes);
+        Book *b = make(f, f->offset, i);
+        double t = timed(b, &fast, 0, &one), u = timed(b, &slow, 1, &passes);
         if (longest < t)
             longest = t;
         if (!passes)
             continue;
         finished++;
-        differs |= !same(&b, &fast, &slow);
+        differs |= !same(b, &fast, &slow);
         low += u < 0.9 * t;
         if (u / t < least)
             least = u / t;
@@ -597,61 +648,302 @@ static int survey(const Family *f) {
     return differs;
 }
 
+// ---- calls ----
+
+// The rules of an everyday book, and those of all variants of a book together: they take half a megabyte, so that the processor learns
+// none of them by heart and still has most of them in its nearer caches.
+enum { EVERYDAY = 40, ALL_RULES = EVERYDAY * VARIANTS };
+
+// A book with its plan and a board in the middle of its run: that one's tally, the rule that steps next, its third job and that job's
+// time.
+typedef struct {
+    Book *book;
+    int32_t *plan, *board;
+    marlinfray_tally tally;
+    size_t number, job;
+    int32_t time;
+} Sample;
+
+static Sample samples[VARIANTS];
+static marlinfray_reply fast_reply, slow_reply;
+
+// Makes so many of the run's steps.
+static void begin_run(Sample *s, uint64_t steps) {
+    const Book *b = s->book;
+    for (size_t i = 0; b->count; i = (i + 1) % b->count) {
+        marlinfray_rule r = b->rules[i];
+        int32_t left = left_side(r, s->board);
+        if (s->board[r.z] <= left)
+            continue;
+        s->number = i, s->job = r.z, s->time = s->board[r.z];
+        if (s->tally.steps == steps)
+            return;
+        s->tally.steps++;
+        s->tally.minutes += s->board[r.z] - left;
+        s->board[r.z] = left;
+    }
+}
+
+static void fast_run(int v) {
+    solve(samples[v].book, &fast);
+}
+
+static void slow_run(int v) {
+    straight(samples[v].book, &slow);
+}
+
+static void fast_kept(int v) {
+    const Book *b = samples[v].book;
+    marlinfray_first_violated(b->n, b->rules, b->count, samples[v].plan, b->n, &fast_reply);
+}
+
+static void slow_kept(int v) {
+    const Book *b = samples[v].book;
+    straight_first_violated(b->n, b->rules, b->count, samples[v].plan, b->n, &slow_reply);
+}
+
+// A hand step is made on the board, and taken back but for its tally.
+static marlinfray_tally fast_tally, slow_tally;
+
+static void fast_step(int v) {
+    Sample *s = &samples[v];
+    fast_tally = s->tally;
+    marlinfray_step(s->book->n, s->book->rules, s->book->count, s->board, s->book->n, &fast_tally, s->number, &fast_reply);
+    s->board[s->job] = s->time;
+}
+
+static void slow_step(int v) {
+    Sample *s = &samples[v];
+    slow_tally = s->tally;
+    straight_step(s->book->n, s->book->rules, s->book->count, s->board, s->book->n, &slow_tally, s->number, &slow_reply);
+    s->board[s->job] = s->time;
+}
+
+static int same_reply(uint64_t kind) {
+    return !memcmp(&fast_reply, &slow_reply, sizeof fast_reply) && fast_reply.kind == kind;
+}
+
+static void call_line(const char *call, const Book *b, double fast_time, double slow_time, int differs) {
+    printf("| %s | %zu | %zu | %s | %s | %s |%s\n", call, b->n, b->count, number(slow_time / fast_time), number(fast_time * 1e9),
+           number(slow_time * 1e9), differs ? " DIFFERS" : "");
+}
+
+// The bench run, the hand step and the kept test on books of so many rules that have a plan. The kept test is made on the plan, so that it
+// looks at every rule, and the hand step steps; without a rule it is refused. 0 where the answers agree.
+static int everyday(int n, int count) {
+    const Family f = {"", random_plan, OFFSET, n, count, 0, 30 + count};
+    int variants = count ? ALL_RULES / count : 1, run_differs = 0, step_differs = 0, kept_differs = 0;
+    limit = 60;
+    for (int v = 0; v < variants; v++) {
+        Sample *s = &samples[v];
+        Book *b = s->book = make(&f, f.offset, v);
+        s->plan = calloc(2 * n, sizeof *s->plan), s->board = s->plan + n;
+        fast_run(v), slow_run(v);
+        run_differs |= !same(b, &fast, &slow) || fast.reply.kind != MARLINFRAY_PLAN;
+        memcpy(s->plan, slow.times, n * sizeof *s->plan);
+        begin_run(s, slow.reply.first / 2);
+
+        fast_kept(v), slow_kept(v);
+        kept_differs |= !same_reply(MARLINFRAY_SATISFIED);
+
+        int32_t left[2];
+        marlinfray_tally tally[2] = {s->tally, s->tally};
+        marlinfray_step(n, b->rules, count, s->board, n, &tally[0], s->number, &fast_reply);
+        left[0] = s->board[s->job], s->board[s->job] = s->time;
+        straight_step(n, b->rules, count, s->board, n, &tally[1], s->number, &slow_reply);
+        left[1] = s->board[s->job], s->board[s->job] = s->time;
+        step_differs |= !same_reply(count ? MARLINFRAY_DONE : MARLINFRAY_REFUSED) || left[0] != left[1] ||
+                        memcmp(&tally[0], &tally[1], sizeof *tally);
+    }
+    double fast_time, slow_time;
+    by_turns(fast_run, slow_run, 1, variants, 0, &fast_time, &slow_time);
+    call_line("bench run", samples->book, fast_time, slow_time, run_differs);
+    by_turns(fast_step, slow_step, 1, variants, 0, &fast_time, &slow_time);
+    call_line("hand step", samples->book, fast_time, slow_time, step_differs);
+    by_turns(fast_kept, slow_kept, 1, variants, 0, &fast_time, &slow_time);
+    call_line("kept test", samples->book, fast_time, slow_time, kept_differs);
+    return run_differs || step_differs || kept_differs;
+}
+
 // ---- stack ----
 
 enum { STACK = 1 << 20, PAINT = 0xa5 };
-static Book stack_book;
 
-static void *idle_thread(void *out) {
-    memset(out, 0, sizeof(Out));
+// What the calls are given whose stack is counted: a book of the most jobs and rules, its file and the bytes of its plan.
+static Book *stack_book;
+static marlinfray_rule stack_rules[RULES];
+static uint8_t stack_file[MARLINFRAY_FILE_BYTES], stack_bytes[MARLINFRAY_PLAN_BYTES * JOBS];
+static size_t stack_length;
+static Out stack_out;
+static marlinfray_tally stack_tally;
+static size_t stack_number;
+
+// A call; it answers something, so that it is no jump.
+typedef int Body(void);
+
+static int no_call(void) {
     return 0;
 }
 
-static void *solve_thread(void *out) {
-    solve(&stack_book, out);
+static int read_book_call(void) {
+    marlinfray_read_book(stack_file, stack_length, stack_rules, RULES, &stack_out.reply);
     return 0;
 }
 
-// The bytes of a thread's painted stack that it wrote.
-static size_t depth(void *(*body)(void *)) {
-    static unsigned char stack[STACK] __attribute__((aligned(4096)));
-    static Out out;
-    memset(stack, PAINT, STACK);
+static int record_call(void) {
+    marlinfray_record(stack_file, stack_length, RULES - 1, &stack_out.reply);
+    return 0;
+}
+
+static int class_call(void) {
+    stack_out.reply.kind = marlinfray_class(0, 1, 2, -1);
+    return 0;
+}
+
+static int first_violated_call(void) {
+    marlinfray_first_violated(stack_book->n, stack_book->rules, stack_book->count, stack_out.times, stack_book->n, &stack_out.reply);
+    return 0;
+}
+
+static int is_tight_call(void) {
+    marlinfray_is_tight(stack_book->n, stack_book->rules, stack_book->count, stack_out.times, stack_book->n, 0, &stack_out.reply);
+    return 0;
+}
+
+static int initial_call(void) {
+    marlinfray_initial(JOBS, stack_out.times, JOBS, &stack_out.reply);
+    return 0;
+}
+
+static int step_call(void) {
+    marlinfray_step(stack_book->n, stack_book->rules, stack_book->count, stack_out.times, stack_book->n, &stack_tally, stack_number,
+                    &stack_out.reply);
+    return 0;
+}
+
+static int solve_call(void) {
+    solve(stack_book, &stack_out);
+    return 0;
+}
+
+static int write_plan_call(void) {
+    marlinfray_write_plan(stack_out.times, JOBS, stack_bytes, sizeof stack_bytes, 0, &stack_out.reply);
+    return 0;
+}
+
+static unsigned char stack[STACK] __attribute__((aligned(4096)));
+static size_t written;
+
+// Paints what is left of the thread's stack, makes the call, and counts the bytes from the deepest one that was written.
+static void *painted(void *body) {
+    unsigned char *top;
+    __asm__ volatile("movq %%rsp, %0" : "=r"(top));
+    memset(stack, PAINT, top - 16 - stack); // the painting's own return address stands there
+    (*(Body **)body)();
+    size_t i = 0;
+    while (stack[i] == PAINT)
+        i++;
+    written = top - stack - i;
+    return 0;
+}
+
+static size_t depth(Body *body) {
     pthread_attr_t attr;
     pthread_t thread;
     pthread_attr_init(&attr);
     pthread_attr_setstack(&attr, stack, STACK);
-    pthread_create(&thread, &attr, body, &out);
+    pthread_create(&thread, &attr, painted, &body);
     pthread_join(thread, 0);
-    size_t i = 0;
-    while (i < STACK && stack[i] == PAINT)
-        i++;
-    return STACK - i;
+    return written;
+}
+
+static void put16(uint16_t v) {
+    stack_file[stack_length++] = v;
+    stack_file[stack_length++] = v >> 8;
+}
+
+// Prints the stack of each call, less that of no call; of the bench run the most on any book of the families.
+static int stacks(void) {
+    static const struct {
+        const char *name;
+        Body *body;
+    } calls[] = {
+        {"read_book", read_book_call}, {"record", record_call},   {"class", class_call}, {"first_violated", first_violated_call},
+        {"is_tight", is_tight_call},   {"initial", initial_call}, {"step", step_call},   {"write_plan", write_plan_call},
+    };
+    const Family f = {"", random_plan, OFFSET, JOBS, RULES, 0, 29};
+    stack_book = make(&f, f.offset, 0);
+    put16('B' | 'K' << 8), put16(JOBS);
+    for (size_t i = 0; i < RULES; i++) {
+        marlinfray_rule r = stack_book->rules[i];
+        put16('R' | 'U' << 8), put16(r.x), put16(r.y), put16(r.z), put16(r.k), put16(r.k >> 16);
+    }
+    straight_first_violated(JOBS, stack_book->rules, RULES, stack_out.times, JOBS, &stack_out.reply);
+    stack_number = stack_out.reply.first;
+
+    size_t none = depth(no_call), most = 0;
+    printf("\nStack of a call, bytes:");
+    for (size_t i = 0; i < sizeof calls / sizeof *calls; i++)
+        printf(" %s %zu,", calls[i].name, depth(calls[i].body) - none);
+    alarm(PATIENCE);
+    for (size_t i = 0; i < sizeof families / sizeof *families; i++) {
+        stack_book = make(&families[i], families[i].offset, 0);
+        size_t d = depth(solve_call) - none;
+        most = most < d ? d : most;
+    }
+    printf(" solve %zu\n", most);
+    return 0;
+}
+
+// ---- the program ----
+
+// Leaves a part of the work to a child, which may be stopped where it takes too long: 1 in the child; in the parent 0, once the child has
+// ended with that status.
+static int is_child(int *status) {
+    fflush(stdout);
+    pid_t child = fork();
+    if (child)
+        waitpid(child, status, 0);
+    return !child;
+}
+
+static int is_late(int status) {
+    return WIFSIGNALED(status) && WTERMSIG(status) == SIGALRM;
 }
 
 int main(int argc, char **argv) {
-    int differs = refusals(), others = 1 < argc && !strcmp(argv[1], "--survey");
+    int others = 1 < argc && !strcmp(argv[1], "--survey"), only_calls = 1 < argc && !strcmp(argv[1], "calls");
+    int all = argc == 1, differs = 0, status;
     if (others) {
         argc--, argv++;
         printf("| Book | Books | Finished by straight passes | Least straight / solve | Below 0.9 | Longest solve, ms |\n|---|---|---|---|---|---|\n");
-    } else
+    } else if (!only_calls)
         printf("| Book | Jobs | Rules | Answer | Passes | Steps | Straight / solve | solve, ms |\n|---|---|---|---|---|---|---|---|\n");
-    for (size_t i = 0; i < sizeof families / sizeof *families; i++) {
-        if ((1 < argc && !strstr(families[i].name, argv[1])) || (others && !families[i].seed))
+    for (size_t i = 0; !only_calls && i < sizeof families / sizeof *families; i++) {
+        const Family *f = &families[i];
+        if ((1 < argc && !strstr(f->name, argv[1])) || (others && !f->seed))
             continue;
-        fflush(stdout);
-        pid_t child = fork();
-        if (child == 0)
-            exit(others ? survey(&families[i]) : measure(&families[i]));
-        int status;
-        waitpid(child, &status, 0);
-        if (WIFSIGNALED(status) && WTERMSIG(status) == SIGALRM)
-            printf("| %s | | | | | | no answer in %d s | |\n", families[i].name, PATIENCE);
+        if (is_child(&status))
+            exit(others ? survey(f) : measure(f));
+        if (is_late(status))
+            printf("| %s | | | | | | no answer in %d s | |\n", f->name, PATIENCE);
         else if (status)
             differs = 1;
     }
-    make(&families[1], families[1].sister, 0, &stack_book);
-    printf("\nStack of a run: %zu bytes\n", depth(solve_thread) - depth(idle_thread));
+    if (all || only_calls) {
+        static const int books[][2] = {{JOBS, 0}, {32, EVERYDAY}, {JOBS, 320}, {JOBS, RULES}};
+        printf("%s| Call | Jobs | Rules | Straight / library | library, ns | straight, ns |\n|---|---|---|---|---|---|\n", all ? "\n" : "");
+        for (size_t i = 0; i < sizeof books / sizeof *books; i++) {
+            if (is_child(&status))
+                exit(everyday(books[i][0], books[i][1]));
+            if (status)
+                differs = 1;
+        }
+    }
+    if (is_child(&status))
+        exit(stacks());
+    if (is_late(status))
+        printf("\nStack: no answer in %d s\n", PATIENCE);
     printf(differs ? "Some answers differ.\n" : "All answers agree.\n");
     return differs;
 }
