@@ -667,7 +667,7 @@ typedef struct {
 static Sample samples[VARIANTS];
 static marlinfray_reply fast_reply, slow_reply;
 
-// Makes so many of the run's steps.
+// Makes the first `steps` steps of the run.
 static void begin_run(Sample *s, uint64_t steps) {
     const Book *b = s->book;
     for (size_t i = 0; b->count; i = (i + 1) % b->count) {
@@ -728,7 +728,7 @@ static void call_line(const char *call, const Book *b, double fast_time, double 
            number(slow_time * 1e9), differs ? " DIFFERS" : "");
 }
 
-// The bench run, the hand step and the kept test on books of so many rules that have a plan. The kept test is made on the plan, so that it
+// The bench run, the hand step and the kept test on books that have a plan. The kept test is made on the plan, so that it
 // looks at every rule, and the hand step steps; without a rule it is refused. 0 where the answers agree.
 static int everyday(int n, int count) {
     const Family f = {"", random_plan, OFFSET, n, count, 0, 30 + count};

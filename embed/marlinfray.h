@@ -37,7 +37,7 @@ enum {
     MARLINFRAY_MAX_RULES = 1024,
     MARLINFRAY_MAX_OFFSET = 20160, /* minutes, of either sign */
     MARLINFRAY_MAX_HOURS = 336,    /* of an HR record in a file, of either sign */
-    MARLINFRAY_FILE_BYTES = 16384, /* the reply to a longer file is the reply to its first so many bytes */
+    MARLINFRAY_FILE_BYTES = 16384, /* the reply to a longer file is the reply to its first 16,384 bytes */
     MARLINFRAY_PLAN_BYTES = 8      /* what a written plan takes for each job */
 };
 
