@@ -1,4 +1,7 @@
 // The examples and the limits of the scope, at run time through the planner's public calls, one line a case.
+
+#![tactic(auto)]
+
 use planner::{
     Class, FirstViolated, Outcome, Read, Refusal, Rule, Solved, Tally, Tightness, class_of,
 };

@@ -1,5 +1,7 @@
 // What the calls answer. What they mean is in specs/, what is true of them in proofs/; the code that meets it is in the crates above.
 
+#![tactic(auto)]
+
 // The tally: steps taken, and minutes lowered in all.
 #[repr(C)]
 #[derive(Drop)]

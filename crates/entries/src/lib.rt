@@ -1,4 +1,7 @@
 // A table's entries, looked at one after the other, and what the calls answer from it.
+
+#![tactic(auto)]
+
 mod choice;
 mod model;
 mod scan;

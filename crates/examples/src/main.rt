@@ -1,4 +1,7 @@
 // The examples of the scope, at run time: the report of each book; the hand steps of example L; and the records of B by number.
+
+#![tactic(auto)]
+
 use planner::{FirstViolated, Rule, Tally, record};
 use report::report;
 

@@ -1,3 +1,5 @@
+#![tactic(auto)]
+
 mod columns;
 mod leaping;
 mod lockstep;

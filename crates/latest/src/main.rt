@@ -1,4 +1,7 @@
 // Reads a book's file on standard input, and prints the plan, or NONE, or REFUSED.
+
+#![tactic(auto)]
+
 use report::report;
 
 fn main() {

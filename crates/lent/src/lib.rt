@@ -1,5 +1,8 @@
 // The planner's entry points for a caller that has its table and tally by value: each function lends its own copy. The table has a
 // place more than a book may have rules; `count` of them are lent.
+
+#![tactic(auto)]
+
 ghost use Rattle.std.specs.Prelude.{◌≡◌, ◌++◌, min, length, drop, replicate};
 ghost use Rattle.derivation.specs.Calls.{model_check_call, tight_call};
 ghost use Rattle.derivation.specs.Step.{no_rule, step_call};

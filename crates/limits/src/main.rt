@@ -1,4 +1,7 @@
 // Files and plans at and past each limit of document 01, one line a case: what the reader and the plan writer answer.
+
+#![tactic(auto)]
+
 ghost use Rattle.std.specs.Prelude.{◌<◌, ◌≤◌};
 
 use planner::{Outcome, Read, write_plan};

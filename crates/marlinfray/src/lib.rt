@@ -1,5 +1,8 @@
 // The public calls for C and Rust: `rt staticlib marlinfray` writes libmarlinfray.a, and embed/marlinfray.h says how C calls it. In C a
 // slice is a pointer and a length, and the reply is three words that the caller lends.
+
+#![tactic(auto)]
+
 ghost use Rattle.std.specs.Prelude.{◌≡◌, length};
 ghost use Rattle.maxatom.specs.Class.{class_of};
 ghost use Rattle.maxatom.specs.declared.Rule.{Rule};

@@ -29,6 +29,7 @@ total_of (c ∷ cs) = c.weight + total_of cs
 
 pub weight_total : (cs : List Clause) {c : Clause} → In c cs → c.weight ≤ total_of cs
 unfolding total_of
+weight_total [] i = elim i [ ]
 weight_total (c ∷ cs) here = omega arith
 weight_total (c ∷ cs) (there i) = omega (arith, weight_total cs i)
 
@@ -49,6 +50,7 @@ reaching t a (b ∷ l) v h =
 pub reached : (t : Assignment) (a : Arm) (l : List Arm) {b : Arm} → In b (a ∷ l) → arm_time t b ≤ℤ greatest t a l
 unfolding greatest
 reached t a [] here = le_make (omega arith)
+reached t a [] (there i) = elim i [ ]
 reached t a (b ∷ l) here = max_left (arm_time t a) (greatest t b l)
 reached t a (b ∷ l) (there i) = ≤ℤ-trans (reached t b l i) (max_right (arm_time t a) (greatest t b l))
 

@@ -198,13 +198,13 @@ furthers : (p q : ℕ) {b n c f m : List ℤ} → Aparts (suc p + q) b n c f →
 furthers p q none none = none
 furthers p q (next a l) (next h k) = next (further p q a h) (furthers p q l k)
 
-starts : (p : ℕ) {b n c f : List ℤ} {t : ℕ} → Aparts t b n c f → Mids p zero b b c
+starts : (p : ℕ) {t : ℕ} {b n c f : List ℤ} → Aparts t b n c f → Mids p zero b b c
 starts p none = none
 starts p (next {b = b} {c = c} a l) =
     let h : Mid p zero b b c = record { is = omega (arith, zero-mul (up b), zero-mul (dn b), zero-mul (up c), zero-mul (dn c)) } in
     next h (starts p l)
 
-all_end : (q : ℕ) {b n c f m : List ℤ} {t : ℕ} → Aparts t b n c f → Mids zero (suc q) n m f → m ≡ f
+all_end : (q : ℕ) {t : ℕ} {b n c f m : List ℤ} → Aparts t b n c f → Mids zero (suc q) n m f → m ≡ f
 all_end q none none = refl
 all_end q (next a l) (next h k) = rw (ends q h, all_end q l k)
 

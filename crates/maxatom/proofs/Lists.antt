@@ -10,6 +10,7 @@ use Rattle.maxatom.specs.Book.{Each}
 use Rattle.maxatom.specs.Clauses.{In, here, there}
 
 pub each_in : {A : Type 0} (P : A → Type 0) {a : A} (l : List A) → Each P l → In a l → P a
+each_in P [] e i = elim i [ ]
 each_in P (b ∷ l) e here = e.0
 each_in P (b ∷ l) e (there i) = each_in P l e.1 i
 

@@ -1,3 +1,5 @@
+#![tactic(auto)]
+
 ghost use Rattle.std.specs.Prelude.{◌≡◌, ◌+◌, ◌*◌, ◌≤◌, pos};
 ghost use Rattle.std.specs.Int.Signed.{lt_z};
 ghost use Rattle.maxatom.specs.Class.{bit_of, class_of};
@@ -29,6 +31,7 @@ fn bit(b: bool) -> u8
 }
 
 // Where z stands: apart from two jobs (0) or from one (1), one of two jobs (2), or all three are one (3).
+#[tactic(auto, unfolding(crate::specs::ClassNumber::shape_of))]
 fn shape(x: u16, y: u16, z: u16) -> u8
     ensures { (result ≡ shape_of x y z) × (result ≤ 3) }
 {
@@ -39,6 +42,7 @@ fn shape(x: u16, y: u16, z: u16) -> u8
 }
 
 // The class by its number: the shape, and 4 more where the offset is negative.
+#[tactic(auto, unfolding(crate::specs::ClassNumber::class_at))]
 fn class_at(c: u8) -> Class
     ensures { result ≡ class_at c }
 {

@@ -1,4 +1,7 @@
 // Parts of a book that share no job, or whose rules between them cannot matter, each advanced for itself.
+
+#![tactic(auto)]
+
 mod advancing;
 mod guessing;
 mod lines;

@@ -1,5 +1,8 @@
 // The public calls on a lent table of rules. Each goes through the table once, entry by entry; what it does with an entry, and with what
 // the entries left, is a covered function's.
+
+#![tactic(auto)]
+
 ghost use Rattle.std.specs.Prelude.{◌≡◌, List, ◌≤◌, min, leb, length};
 ghost use Rattle.maxatom.specs.declared.Rule.{Rule};
 ghost use Rattle.derivation.specs.Step.{step_call};

@@ -1,4 +1,7 @@
 // The text that latest prints.
+
+#![tactic(auto)]
+
 mod latest;
 mod lines;
 mod text;

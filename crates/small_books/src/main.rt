@@ -1,5 +1,8 @@
 // Every book of up to two rules over two jobs, and of two rules over three, with offsets from -1 to 1: the bench run, hand steps in three
 // orders, and a search over all times from -6 to 0 must agree.
+
+#![tactic(auto)]
+
 ghost use Rattle.std.specs.Prelude.{◌<◌, ◌≤◌};
 
 use planner::{FirstViolated, Outcome, Rule, Solved, Tally};

@@ -1,4 +1,7 @@
 // Assignments and single rules: the initial assignment, the tests of a board and of a rule, and a rule's step.
+
+#![tactic(auto)]
+
 mod board;
 mod rule;
 

@@ -1,4 +1,7 @@
 // Rules in plain columns, and what one rule adds to the checks of a table and to K.
+
+#![tactic(auto)]
+
 ghost use Rattle.std.specs.Prelude.{◌≡◌, [], ◌∷◌, ◌++◌, ◌+◌, ◌<◌, ◌^◌, ℤ, nat_abs};
 ghost use Rattle.maxatom.specs.Book.{minus};
 ghost use Rattle.table.specs.Columns.{rule_of, rules_of, Columns};
