@@ -7,7 +7,7 @@ ghost use Rattle.maxatom.specs.ClassNumber.{shape_of, class_at};
 
 // A max-atom, max(x, y) + k ≥ z over the times of three jobs. Document 01: a rule.
 #[repr(C)]
-#[derive(Drop)]
+#[derive(Clone, Copy)]
 pub struct Rule {
     pub x: u16,
     pub y: u16,
@@ -16,7 +16,7 @@ pub struct Rule {
 }
 
 // Document 01: idle, impossible, one-armed, two-armed.
-#[derive(Drop)]
+#[derive(Clone, Copy)]
 pub enum Class {
     Tautology,
     Contradiction,
