@@ -49,8 +49,10 @@ def functions(crate):
 
 def entry_points():
     calls = {f"planner::{name}": c for name, c in functions("planner").items()}
-    for path in re.findall(r"^pub use ([\w:]+::[a-z]\w*);", open("crates/planner/src/lib.rt").read(), re.M):
-        calls[path] = functions(path.split("::")[0])[path.split("::")[-1]]
+    for crate, path, names in re.findall(r"^pub use (\w+)((?:::\w+)*?)::(\{[^}]*\}|\w+);", open("crates/planner/src/lib.rt").read(), re.M):
+        for name in re.findall(r"\w+", names):
+            if name[0].islower():
+                calls[f"{crate}{path}::{name}"] = functions(crate)[name]
     calls.update({f"marlinfray::{name}": c for name, c in functions("marlinfray").items()})
     calls["report::report"] = functions("report")["report"]
     if len(calls) < 20:
