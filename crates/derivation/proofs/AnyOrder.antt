@@ -1,29 +1,29 @@
 -- Demand 3: what any list of hand steps does. Assumes nothing.
-use mathlib.Core.Path.{◌≡◌, refl, sym, ap, subst, ◌∙◌}
+use mathlib.Core.Path.{◌≡◌, refl, sym, subst, ◌∙◌}
 use mathlib.Core.Logic.{◌↔◌, ◌⊎◌, inl, inr, ⊎_elim}
 use mathlib.Core.Bool.{Bool, true, false, cond}
 use mathlib.Core.List.{List, [], ◌∷◌}
-use Prim.Native.Nat.{ℕ, zero, suc, ◌+◌, ◌*◌, ◌<◌, ◌≤◌}
+use Prim.Native.Nat.{ℕ, zero, suc, ◌+◌, ◌<◌}
 use native.Mathlib.Omega.{arith}
-use lib.ListN.{length, set, get_or, replicate, length-set}
+use lib.ListN.{length, replicate, length-set}
 use lib.Seq.{get_or-set_same, get_or-set_other}
 use lib.IntN.{ℤ, pos}
 use lib.Signed.{◌≤ℤ◌, ◌<ℤ◌}
-use Rattle.maxatom.specs.Rule.{time_at, left_side, satisfied, minutes_off}
-use Rattle.maxatom.specs.Book.{Each, Accepted, InBook, AllSatisfied, Model, Plan, NotAfterZero, Under, total, floor}
+use Rattle.maxatom.specs.Rule.{time_at, left_side, satisfied}
+use Rattle.maxatom.specs.Book.{Each, Accepted, InBook, AllSatisfied, Model, Plan, NotAfterZero, Under, floor}
 use Rattle.maxatom.specs.declared.Rule.{Rule}
-use Rattle.maxatom.specs.Clauses.{left_of, clause_of, clauses_of}
+use Rattle.maxatom.specs.Clauses.{clause_of}
 use Rattle.maxatom.proofs.Choose.{clash}
-use Rattle.maxatom.proofs.Integers.{le_false, lt_make, lt_read, le_read, le_make, by_test_not}
+use Rattle.maxatom.proofs.Integers.{le_false, le_make, by_test_not}
 use Rattle.maxatom.proofs.Lists.{each_map, each_time, time_each}
-use Rattle.maxatom.proofs.Clauses.{KeepsAll, Below}
-use Rattle.maxatom.proofs.Derivations.{Derivation, start, step, longest, longest_high, stays_high, full, lemma_7}
+use Rattle.maxatom.proofs.Clauses.{Below}
+use Rattle.maxatom.proofs.Derivations.{start, step, longest, longest_high, stays_high, full, lemma_7}
 use Rattle.maxatom.proofs.Rules.{left_same, in_clauses, keeps_all, kept_all, room_zero, zero_time}
 use Rattle.maxatom.proofs.Plans.{plan_unique}
-use Rattle.derivation.specs.Refusals.{Reply, refused, answer, accepts}
+use Rattle.derivation.specs.Refusals.{Reply, refused, accepts}
 use Rattle.derivation.specs.Step.{State, initial, no_rule, rule_at, below_floor, step_on, Called, step_call}
 use Rattle.derivation.specs.Play.{Entry, play, end_state, stepped, count_steps, took_off, sum_minutes}
-use Rattle.derivation.specs.Demands.{Due, Lowered, Unchanged, WithPlan, WithNone, AnyOrder, Demand3}
+use Rattle.derivation.specs.Demands.{Due, Lowered, Unchanged, WithPlan, WithNone, Demand3}
 use Rattle.derivation.proofs.Reached.{Reached, set_of, high_test, test_high, floor_low, size_is, not_after, View, no_rule_lem, too_low, kept, steps, view}
 
 pub each_at : (P : Rule → Type 0) (rules : List Rule) (number : ℕ) → number < length rules → Each P rules → P (rule_at rules number)

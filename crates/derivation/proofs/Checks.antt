@@ -1,20 +1,20 @@
 -- The refusals: which check is the first to fail, and that a table's checks leave over just the accepted books. Assumes nothing.
-use mathlib.Core.Path.{◌≡◌, refl, sym, ap, subst, ◌∙◌}
-use mathlib.Core.Logic.{◌↔◌, ◌⊎◌, inl, inr, ⊎_elim}
+use mathlib.Core.Path.{◌≡◌, refl, ap, subst, ◌∙◌}
+use mathlib.Core.Logic.{◌↔◌, ⊎_elim}
 use mathlib.Core.Bool.{Bool, true, false, cond, ◌||◌}
 use mathlib.Core.List.{List, [], ◌∷◌, ◌++◌, append-nil}
-use Prim.Native.Nat.{ℕ, ◌+◌, ◌<◌, ◌≤◌}
+use Prim.Native.Nat.{ℕ, ◌+◌}
 use native.Mathlib.Omega.{arith}
 use lib.Dec.{leb, ltb}
 use lib.ListN.{length}
-use lib.IntN.{ℤ, pos, nat_abs}
+use lib.IntN.{ℤ, pos}
 use lib.Signed.{lt_z}
 use borrow.Author.Tests.{leb-false, ltb-false, le-ltb, lt-leb, eqb-true, eq-eqb, not-false}
 use Rattle.maxatom.specs.Book.{Each, InBook, Accepted, minus}
 use Rattle.maxatom.specs.declared.Rule.{Rule}
 use Rattle.maxatom.proofs.Choose.{cond_yes, cond_no, clash}
-use Rattle.maxatom.proofs.Integers.{up, dn, le_read, le_make, lt_false, false_lt, abs_parts, minus_parts, one_part}
-use Rattle.derivation.specs.Refusals.{Reply, refused, answer, accepts, Check, reply, verdict, table_checks, times_checks, jobs_check, count_check, rule_checks, job_outside, offset_outside}
+use Rattle.maxatom.proofs.Integers.{up, dn, le_read, le_make, lt_false, false_lt, abs_parts, one_part}
+use Rattle.derivation.specs.Refusals.{refused, answer, accepts, Check, reply, verdict, table_checks, times_checks, rule_checks, job_outside, offset_outside}
 
 answer_not : {A : Type 0} {a : A} {number place : ℕ} → answer a ≡ refused number place → ⊥
 answer_not e = let z : ◌≡◌ {A = ℕ} 0 1 = cc in omega arith

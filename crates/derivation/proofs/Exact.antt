@@ -1,26 +1,24 @@
 -- Demand 2: the bench run says plan exactly where a model exists, of any sign, and its assignment is then the plan. Assumes nothing.
-use mathlib.Core.Path.{◌≡◌, refl, sym, ap, subst, ◌∙◌}
-use mathlib.Core.Bool.{false}
+use mathlib.Core.Path.{◌≡◌, refl}
 use mathlib.Core.List.{List}
-use Prim.Native.Nat.{ℕ, ◌+◌, ◌*◌, ◌<◌, ◌≤◌}
+use Prim.Native.Nat.{ℕ}
 use native.Mathlib.Omega.{arith}
 use lib.ListN.{length, replicate}
 use lib.IntN.{ℤ, pos, ◌+ℤ◌}
-use lib.Signed.{◌≤ℤ◌, ◌<ℤ◌}
 use Rattle.maxatom.specs.Rule.{time_at}
-use Rattle.maxatom.specs.Book.{Accepted, AllSatisfied, Model, Plan, Satisfiable, total, floor, minus}
+use Rattle.maxatom.specs.Book.{Accepted, Plan, Satisfiable, floor, minus}
 use Rattle.maxatom.specs.declared.Rule.{Rule}
 use Rattle.maxatom.specs.Clauses.{Assignment, clauses_of}
-use Rattle.maxatom.proofs.Integers.{up, dn, le_read, le_make, lt_read, add_parts, minus_parts}
+use Rattle.maxatom.proofs.Integers.{up, le_read, le_make, lt_read, add_parts, minus_parts}
 use Rattle.maxatom.proofs.Lists.{sum_by, sum_most}
 use Rattle.maxatom.proofs.Clauses.{Below, lemma_1}
 use Rattle.maxatom.proofs.Derivations.{start, longest, stays_high}
 use Rattle.maxatom.proofs.Rules.{keeps_all, room_zero, zero_time}
 use Rattle.maxatom.proofs.Plans.{plan_unique, plan_at_zero}
-use Rattle.derivation.specs.Step.{State, initial, below_floor}
+use Rattle.derivation.specs.Step.{State, initial}
 use Rattle.derivation.specs.Play.{rounds}
 use Rattle.derivation.specs.Run.{End, planned, fell, unfinished, pass_bound, solve}
-use Rattle.derivation.specs.Demands.{Exact, Demand2, RunFacts, PlanFacts}
+use Rattle.derivation.specs.Demands.{Demand2, RunFacts, PlanFacts}
 use Rattle.derivation.proofs.Reached.{Reached, set_of, high_test, floor_low}
 use Rattle.derivation.proofs.AnyOrder.{played, is_plan, with_plan}
 use Rattle.derivation.proofs.Passes.{PassesAre, passes_are, run_through}

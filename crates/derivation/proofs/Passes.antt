@@ -2,24 +2,24 @@
 use mathlib.Core.Path.{◌≡◌, refl, sym, ap, subst, ◌∙◌}
 use mathlib.Core.Bool.{Bool, true, false, cond}
 use mathlib.Core.List.{List, [], ◌∷◌, ◌++◌}
-use Prim.Native.Nat.{ℕ, zero, suc, ◌+◌, ◌*◌, ◌<◌, ◌≤◌}
+use Prim.Native.Nat.{ℕ, zero, suc, ◌+◌, ◌<◌, ◌≤◌}
 use native.Mathlib.Numerals.{add-one}
 use native.Mathlib.Omega.{arith}
 use lib.Dec.{eqb}
-use lib.ListN.{length, set, drop, get_or}
-use lib.IntN.{ℤ, pos}
+use lib.ListN.{length, set, drop}
+use lib.IntN.{ℤ}
 use lib.Signed.{◌≤ℤ◌, ◌<ℤ◌, lt_z}
 use borrow.Author.Tests.{eqb-true, eqb-false}
 use Rattle.maxatom.specs.Rule.{time_at, left_side, satisfied}
-use Rattle.maxatom.specs.Book.{Each, Accepted, InBook, AllSatisfied, total, floor}
+use Rattle.maxatom.specs.Book.{Accepted, InBook, AllSatisfied, floor}
 use Rattle.maxatom.specs.declared.Rule.{Rule}
-use Rattle.maxatom.proofs.Choose.{cond_yes, cond_no, clash}
+use Rattle.maxatom.proofs.Choose.{clash}
 use Rattle.maxatom.proofs.Integers.{le_read, lt_read, lt_true, lt_false, by_test_not}
 use Rattle.maxatom.proofs.Lists.{set_time}
 use Rattle.maxatom.proofs.Derivations.{longest_high}
 use Rattle.maxatom.proofs.Rules.{room_zero}
 use Rattle.derivation.specs.Step.{State, rule_at, below_floor, step_on, Called, step_call}
-use Rattle.derivation.specs.Play.{Entry, play, end_state, up_from, rounds}
+use Rattle.derivation.specs.Play.{play, end_state, up_from, rounds}
 use Rattle.derivation.specs.Run.{End, planned, fell, unfinished, Run, pass, fallen, passes, pass_bound}
 use Rattle.derivation.proofs.Reached.{Reached, set_of, high_test, test_high, floor_low, View, no_rule_lem, too_low, kept, steps, view}
 use Rattle.derivation.proofs.AnyOrder.{each_at, reached_step, allowed, played}

@@ -1,29 +1,27 @@
 -- A state that hand steps reach from the initial one is a derivation's: so 21, 22 and 23 never fail there, and a call does one of four things.
 -- Assumes nothing.
 use mathlib.Core.Path.{◌≡◌, refl, sym, ap, subst, ◌∙◌}
-use mathlib.Core.Logic.{◌⊎◌, inl, inr, ⊎_elim}
-use mathlib.Core.Bool.{Bool, true, false, cond, not, ◌&&◌, ◌||◌}
+use mathlib.Core.Bool.{Bool, true, false, ◌||◌}
 use mathlib.Core.List.{List, [], ◌∷◌, ◌++◌}
 use Prim.Native.Nat.{ℕ, zero, suc, ◌+◌, ◌*◌, ◌<◌, ◌≤◌}
 use native.Mathlib.Omega.{arith}
-use lib.Dec.{eqb, leb}
-use lib.ListN.{length, set, replicate, length-replicate}
-use lib.IntN.{ℤ, pos, neg_ℤ, ◌+ℤ◌}
-use lib.Signed.{◌≤ℤ◌, ◌<ℤ◌, le_z, lt_z}
-use borrow.Author.Tests.{leb-true, leb-false, eq-eqb, le-leb}
-use Rattle.maxatom.specs.Rule.{time_at, left_side, satisfied, eq_z, minutes_off}
+use lib.Dec.{leb}
+use lib.ListN.{length, replicate, length-replicate}
+use lib.IntN.{ℤ, pos, neg_ℤ}
+use lib.Signed.{◌≤ℤ◌, lt_z}
+use borrow.Author.Tests.{leb-true, leb-false, le-leb}
+use Rattle.maxatom.specs.Rule.{time_at, satisfied}
 use Rattle.maxatom.specs.Book.{Each, Accepted, InBook, total, floor, minus}
 use Rattle.maxatom.specs.declared.Rule.{Rule}
-use Rattle.maxatom.specs.Clauses.{In, Clause, left_of, clause_of, clauses_of}
+use Rattle.maxatom.specs.Clauses.{Clause, clauses_of}
 use Rattle.maxatom.proofs.Choose.{clash}
-use Rattle.maxatom.proofs.Integers.{up, dn, le_read, le_make, lt_read, eq_make, add_parts, neg_parts, minus_parts, up_zero, le_true, true_le, lt_true, lt_false, false_lt, le_false, true_eq}
+use Rattle.maxatom.proofs.Integers.{up, dn, le_read, le_make, eq_make, add_parts, neg_parts, minus_parts, true_le, lt_false, false_lt, true_eq}
 use Rattle.maxatom.proofs.Lists.{time_each, sum_by}
 use Rattle.maxatom.proofs.Clauses.{total_of}
-use Rattle.maxatom.proofs.Derivations.{Derivation, start, step, Setting, same_length, under_latest, few_steps, not_far, minutes_lost, floor_under}
-use Rattle.maxatom.proofs.Rules.{left_same, in_clauses, total_same, setting, zero_time}
-use Rattle.derivation.specs.declared.Tally.{Tally}
+use Rattle.maxatom.proofs.Derivations.{Derivation, Setting, same_length, under_latest, few_steps, not_far, minutes_lost, floor_under}
+use Rattle.maxatom.proofs.Rules.{total_same, setting, zero_time}
 use Rattle.derivation.specs.Refusals.{Reply, refused, answer, Check, reply, verdict, lent, times_checks}
-use Rattle.derivation.specs.Step.{State, initial, rule_at, in_range, below_floor, sum_z, fits, rule_step_checks, step_checks, step_on, Called, called_by, step_call}
+use Rattle.derivation.specs.Step.{State, rule_at, in_range, below_floor, sum_z, fits, rule_step_checks, step_checks, step_on, Called, called_by, step_call}
 use Rattle.derivation.proofs.Checks.{says, skips, skips_all, refused_append, times_pass}
 
 abbrev pub Reached : ℕ → List Rule → State → Type 0

@@ -1,13 +1,13 @@
 -- A walk over a book's clauses is a pass without an end. Assumes nothing.
-use mathlib.Core.Path.{◌≡◌, refl, sym, ap, subst, ◌∙◌}
-use mathlib.Core.Bool.{true, false}
+use mathlib.Core.Path.{◌≡◌, ap, subst, ◌∙◌}
+use mathlib.Core.Bool.{false}
 use mathlib.Core.List.{List, [], ◌∷◌}
 use Prim.Native.Nat.{ℕ, ◌+◌}
 use native.Mathlib.Omega.{arith}
 use lib.ListN.{set}
 use lib.IntN.{ℤ}
 use lib.Signed.{◌≤ℤ◌, ◌<ℤ◌}
-use Rattle.maxatom.specs.Rule.{time_at, left_side, satisfied}
+use Rattle.maxatom.specs.Rule.{time_at, satisfied}
 use Rattle.maxatom.specs.declared.Rule.{Rule}
 use Rattle.maxatom.specs.Clauses.{left_of, clause_of, clauses_of}
 use Rattle.maxatom.specs.Jumps.{Walk, done, keep, lower}

@@ -1,5 +1,5 @@
 -- The ★ examples of document 01: one table, and one test over it.
-use Rattle.std.specs.Prelude.{Bool, true, false, not, ◌&&◌, List, [], ◌∷◌, ℕ, eqb, ℤ, pos, negsuc}
+use Rattle.std.specs.Prelude.{Bool, true, false, ◌&&◌, List, [], ◌∷◌, ℕ, eqb, ℤ, pos}
 use Rattle.std.specs.Bool.{beq}
 use Rattle.maxatom.specs.Rule.{satisfied, tight, eq_z}
 use Rattle.maxatom.specs.Class.{class_of}
@@ -9,7 +9,7 @@ use Rattle.maxatom.specs.declared.Class.{Class}
 use Rattle.maxatom.specs.declared.Class.TheVariants.{Tautology, Contradiction, Difference, Disjunctive}
 use Rattle.derivation.specs.Refusals.{accepts}
 use Rattle.derivation.specs.Step.{State, rule_at, step_call}
-use Rattle.derivation.specs.Run.{End, planned, fell, unfinished, Run, solve}
+use Rattle.derivation.specs.Run.{End, planned, fell, unfinished, solve}
 
 -- what the paper says of a book
 pub data Claim : Type 0 where

@@ -9,9 +9,7 @@ use Rattle.derivation.specs.Calls.{ModelCheck, satisfies, violates, Answer, answ
 use Rattle.derivation.specs.declared.Tally.{Tally}
 use Rattle.derivation.specs.declared.Counts.{Counts}
 use Rattle.derivation.specs.declared.Outcome.{Outcome}
-use Rattle.derivation.specs.declared.Outcome.TheVariants as Outcome
 use Rattle.derivation.specs.declared.Read.{Read}
-use Rattle.derivation.specs.declared.Read.TheVariants as Read
 use Rattle.derivation.specs.declared.FirstViolated.{FirstViolated}
 use Rattle.derivation.specs.declared.FirstViolated.TheVariants as Violated
 use Rattle.derivation.specs.declared.Tightness.{Tightness}

@@ -8,15 +8,14 @@ use native.Mathlib.Omega.{arith}
 use lib.Dec.{eqb}
 use lib.IntN.{ℤ, pos, ◌+ℤ◌}
 use lib.Signed.{◌≤ℤ◌, ◌<ℤ◌, lt_z, le_z}
-use borrow.Author.Tests.{eqb-true, eqb-false, eq-eqb, not-true}
+use borrow.Author.Tests.{eqb-true, eqb-false, not-true}
 use Rattle.maxatom.specs.Rule.{time_at, max_z, left_side, satisfied}
 use Rattle.maxatom.specs.Class.{negative, tautology, contradiction, difference, disjunctive, class_of, acting_twice, bit_of, ClassMeaning}
 use Rattle.maxatom.specs.ClassNumber.{shape_of, class_at}
 use Rattle.maxatom.specs.declared.Rule.{Rule}
-use Rattle.maxatom.specs.declared.Class.{Class}
 use Rattle.maxatom.specs.declared.Class.TheVariants.{Tautology, Contradiction, Difference, Disjunctive}
 use Rattle.maxatom.proofs.Choose.{cond_yes, cond_no, clash}
-use Rattle.maxatom.proofs.Integers.{up, dn, le_read, le_make, lt_read, lt_make, add_parts, le_true, true_le, lt_true, lt_false, false_le, by_test, ≤ℤ-trans, add_mono, max_left, max_right, max_split}
+use Rattle.maxatom.proofs.Integers.{le_read, le_make, lt_read, add_parts, le_true, true_le, lt_true, lt_false, by_test, ≤ℤ-trans, add_mono, max_left, max_right, max_split}
 
 -- the tests of the classes: a and b that z is x and y, e that x is y, g that k is negative
 one_bit : Bool → Bool → Bool → Bool → Bool

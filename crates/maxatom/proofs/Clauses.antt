@@ -1,6 +1,6 @@
 -- Clauses with any number of arms: max(v₁ + k₁, …) ≥ z. Lemmas 1 and 3 of the paper. Assumes nothing.
-use mathlib.Core.Path.{◌≡◌, refl, ap}
-use mathlib.Core.Logic.{◌⊎◌, inl, inr, ⊎_elim}
+use mathlib.Core.Path.{◌≡◌}
+use mathlib.Core.Logic.{⊎_elim}
 use mathlib.Core.List.{List, [], ◌∷◌}
 use Prim.Native.Nat.{ℕ, ◌+◌, ◌≤◌}
 use native.Mathlib.Omega.{arith}
@@ -9,7 +9,7 @@ use lib.Signed.{◌≤ℤ◌}
 use Rattle.maxatom.specs.Rule.{max_z}
 use Rattle.maxatom.specs.Book.{Each}
 use Rattle.maxatom.specs.Clauses.{In, here, there, Arm, Clause, Assignment, arm_time, greatest, left_of, Keeps}
-use Rattle.maxatom.proofs.Integers.{up, dn, le_read, le_make, add_parts, ≤ℤ-trans, add_mono, max_cases, max_left, max_right}
+use Rattle.maxatom.proofs.Integers.{dn, le_read, le_make, add_parts, ≤ℤ-trans, add_mono, max_cases, max_left, max_right}
 use Rattle.maxatom.proofs.Lists.{each_in, in_each}
 
 abbrev pub KeepsAll : Assignment → List Clause → Type 0

@@ -1,18 +1,18 @@
 -- Max-derivations above a floor, from given latest times: Lemmas 6 and 7 of the paper, and how long a derivation can be.
 -- Over clauses with any number of arms and any latest times. Assumes nothing.
 use mathlib.Core.Path.{◌≡◌, refl, sym, ap, subst, ◌∙◌}
-use mathlib.Core.Logic.{◌↔◌, ⊎_elim}
+use mathlib.Core.Logic.{◌↔◌}
 use mathlib.Core.Bool.{Bool, true, false}
 use mathlib.Core.List.{List, [], ◌∷◌}
-use Prim.Native.Nat.{ℕ, zero, suc, ◌+◌, ◌≤◌, ◌<◌}
+use Prim.Native.Nat.{ℕ, suc, ◌+◌, ◌≤◌, ◌<◌}
 use native.Mathlib.Omega.{arith}
-use lib.ListN.{length, set, length-set}
+use lib.ListN.{length, length-set}
 use lib.IntN.{ℤ, pos, ◌+ℤ◌}
 use lib.Signed.{◌≤ℤ◌, ◌<ℤ◌, le_z}
 use Rattle.maxatom.specs.Rule.{time_at, minutes_off}
 use Rattle.maxatom.specs.Book.{Each}
 use Rattle.maxatom.specs.Clauses.{In, here, Arm, Clause, Assignment, left_of, Keeps, stepped}
-use Rattle.maxatom.proofs.Integers.{up, dn, le_read, le_make, lt_read, lt_make, add_parts, off_most, off_parts, le_true, le_false, ≤ℤ-trans}
+use Rattle.maxatom.proofs.Integers.{up, dn, le_read, le_make, lt_read, add_parts, off_most, off_parts, le_true, le_false, ≤ℤ-trans}
 use Rattle.maxatom.proofs.Lists.{each_in, in_each, set_time, sum_by, sum_set, sum_most}
 use Rattle.maxatom.proofs.Clauses.{KeepsAll, Below, Weighed, total_of, weight_total, reached, left_mono}
 use Rattle.maxatom.proofs.SmallModels.{Small, lemma_2}

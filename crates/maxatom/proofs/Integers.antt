@@ -6,7 +6,7 @@ use Prim.Native.Nat.{ℕ, zero, suc, ◌+◌, ◌≤◌}
 use native.Mathlib.Omega.{arith}
 use lib.IntN.{ℤ, pos, negsuc, neg_ℤ, ◌+ℤ◌, sub_ℕ, nat_abs, ◌-ℤ◌}
 use lib.Signed.{◌≤ℤ◌, ◌<ℤ◌, le_z, lt_z}
-use lib.Dec.{T, leb, ltb, leb→le, le→leb, ltb→lt, lt→ltb, nltb→le, nleb→lt}
+use lib.Dec.{T, ltb, leb→le, le→leb, ltb→lt, lt→ltb, nleb→lt}
 use borrow.Author.Tests.{ltb-true, ltb-false}
 use Rattle.maxatom.specs.Rule.{max_z, eq_z, minutes_off}
 use Rattle.maxatom.specs.Book.{minus}

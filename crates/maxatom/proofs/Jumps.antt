@@ -1,6 +1,6 @@
 -- Jumps: a list of clause checks that decides alike at two assignments decides so at every assignment between them on their line, so that
 -- repetitions of it are one assignment. Over clauses with any number of arms. Assumes nothing.
-use mathlib.Core.Path.{◌≡◌, refl, ap, subst, ◌∙◌}
+use mathlib.Core.Path.{◌≡◌, refl, ap, subst}
 use mathlib.Core.Bool.{Bool, true, false}
 use mathlib.Core.List.{List, [], ◌∷◌}
 use Prim.Native.Nat.{ℕ, zero, suc, ◌+◌, ◌*◌, ◌≤◌}
@@ -10,7 +10,7 @@ use lib.ListN.{set}
 use lib.IntN.{ℤ, pos, ◌+ℤ◌}
 use lib.Signed.{◌≤ℤ◌, ◌<ℤ◌, le_z, lt_z}
 use Rattle.maxatom.specs.Rule.{time_at}
-use Rattle.maxatom.specs.Clauses.{In, Arm, Clause, arm_time, left_of, Keeps, stepped}
+use Rattle.maxatom.specs.Clauses.{Arm, Clause, arm_time, left_of, Keeps}
 use Rattle.maxatom.specs.Jumps.{SameArm, SameKeeper, Walk, Lockstep, done, keep, lower, Rounds, Passing, start, round}
 use Rattle.maxatom.proofs.Integers.{up, dn, le_read, le_make, lt_read, eq_make, add_parts, le_true, le_false, lt_true, lt_false, ≤ℤ-trans}
 use Rattle.maxatom.proofs.Clauses.{reaching, reached}

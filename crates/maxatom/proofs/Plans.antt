@@ -3,16 +3,16 @@ use mathlib.Core.Path.{◌≡◌, refl, sym, ap, ◌∙◌}
 use mathlib.Core.Logic.{◌⊎◌, inl, inr, ⊎_elim}
 use mathlib.Core.Bool.{Bool, true, false}
 use mathlib.Core.List.{List, [], ◌∷◌, map}
-use Prim.Native.Nat.{ℕ, zero, suc, ◌+◌, ◌<◌, ◌≤◌}
+use Prim.Native.Nat.{ℕ, zero, suc, ◌<◌}
 use native.Mathlib.Omega.{arith}
 use lib.ListN.{length, length-map}
 use lib.Seq.{ext_get_or}
 use lib.IntN.{ℤ, pos, ◌+ℤ◌}
-use lib.Signed.{◌≤ℤ◌, ◌<ℤ◌, lt_z}
-use Rattle.maxatom.specs.Rule.{time_at, max_z, satisfied}
+use lib.Signed.{◌<ℤ◌, lt_z}
+use Rattle.maxatom.specs.Rule.{time_at}
 use Rattle.maxatom.specs.Book.{Each, InBook, Accepted, AllSatisfied, Model, Plan, NotAfterZero}
 use Rattle.maxatom.specs.declared.Rule.{Rule}
-use Rattle.maxatom.specs.Clauses.{Assignment, Keeps, greatest, clause_of, clauses_of}
+use Rattle.maxatom.specs.Clauses.{Assignment, greatest, clauses_of}
 use Rattle.maxatom.proofs.Integers.{up, dn, le_read, le_make, lt_read, eq_make, add_parts, lt_true, lt_false}
 use Rattle.maxatom.proofs.Clauses.{KeepsAll, lemma_1}
 use Rattle.maxatom.proofs.Rules.{keeps_all, kept}

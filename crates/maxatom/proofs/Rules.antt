@@ -1,19 +1,19 @@
 -- The rules of document 01 as clauses of two arms with one offset, latest times zero. Assumes nothing.
-use mathlib.Core.Path.{◌≡◌, refl, sym, ap, subst, ◌∙◌}
-use mathlib.Core.Logic.{◌↔◌, ⊎_elim}
+use mathlib.Core.Path.{◌≡◌, refl, sym}
+use mathlib.Core.Logic.{⊎_elim}
 use mathlib.Core.Bool.{true}
 use mathlib.Core.List.{List, [], ◌∷◌}
-use Prim.Native.Nat.{ℕ, zero, suc, ◌+◌, ◌*◌, ◌≤◌, ◌<◌}
+use Prim.Native.Nat.{ℕ, zero, suc, ◌*◌, ◌<◌}
 use native.Mathlib.Nat.{zero-mul, suc-mul}
 use native.Mathlib.Omega.{arith}
 use lib.ListN.{length, get_or, replicate, length-replicate}
 use lib.IntN.{ℤ, pos, ◌+ℤ◌}
 use lib.Signed.{◌≤ℤ◌}
-use Rattle.maxatom.specs.Rule.{time_at, max_z, left_side, satisfied, minutes_off}
+use Rattle.maxatom.specs.Rule.{time_at, max_z, left_side, satisfied}
 use Rattle.maxatom.specs.Book.{Each, AllSatisfied, total, floor, minus}
 use Rattle.maxatom.specs.declared.Rule.{Rule}
 use Rattle.maxatom.specs.Clauses.{In, here, there, Clause, left_of, greatest, Keeps, clause_of, clauses_of}
-use Rattle.maxatom.proofs.Integers.{up, dn, le_read, le_make, eq_make, add_parts, abs_parts, minus_parts, off_parts, le_true, true_le, add_mono, max_cases, max_left, max_right, max_under}
+use Rattle.maxatom.proofs.Integers.{le_read, le_make, eq_make, add_parts, abs_parts, minus_parts, off_parts, le_true, true_le, add_mono, max_cases, max_left, max_right, max_under}
 use Rattle.maxatom.proofs.Lists.{sum_by}
 use Rattle.maxatom.proofs.Clauses.{KeepsAll, Weighed, total_of}
 use Rattle.maxatom.proofs.Derivations.{Setting, room}

@@ -2,15 +2,15 @@
 -- there is one no lower than the smallest latest time minus the total of the offsets.
 -- Idea: a place is a minute below zero. Keep the places that some clause's chosen arm spans, and those above the smallest latest time;
 -- close up the others. Each offset spans no more places than its size, so few are kept. Assumes nothing.
-use mathlib.Core.Path.{◌≡◌, refl, sym, ap}
+use mathlib.Core.Path.{◌≡◌, refl}
 use mathlib.Core.List.{List, [], ◌∷◌}
 use mathlib.Core.Bool.{Bool, true, false, ◌||◌}
-use Prim.Native.Nat.{ℕ, ◌+◌, ◌≤◌, ◌<◌, min}
+use Prim.Native.Nat.{ℕ, ◌+◌, ◌≤◌, min}
 use native.Mathlib.Omega.{arith}
-use lib.IntN.{ℤ, pos, neg_ℤ, ◌+ℤ◌, ◌-ℤ◌}
+use lib.IntN.{ℤ, pos, neg_ℤ, ◌+ℤ◌}
 use lib.Signed.{◌≤ℤ◌}
-use Rattle.maxatom.specs.Book.{Each, minus}
-use Rattle.maxatom.specs.Clauses.{Arm, Clause, Assignment, arm_time, Keeps}
+use Rattle.maxatom.specs.Book.{minus}
+use Rattle.maxatom.specs.Clauses.{Arm, Clause, Assignment, Keeps}
 use Rattle.maxatom.proofs.Integers.{up, dn, le_read, le_make, add_parts, neg_parts, minus_parts, up_zero, ≤ℤ-trans, add_mono}
 use Rattle.maxatom.proofs.Lists.{each_in}
 use Rattle.maxatom.proofs.Counting.{count, count_none, count_or, count_slow, count_mono, count_all, within, within_count, within_true}

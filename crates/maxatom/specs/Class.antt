@@ -1,5 +1,5 @@
 -- The four classes of rule.
-use Rattle.std.specs.Prelude.{◌≡◌, Bool, true, false, cond, not, ◌&&◌, ◌||◌, List, ℕ, ◌+◌, ◌*◌, eqb, ℤ, pos}
+use Rattle.std.specs.Prelude.{◌≡◌, Bool, true, false, cond, not, ◌&&◌, ◌||◌, List, ℕ, ◌+◌, eqb, ℤ, pos}
 use Rattle.std.specs.Bool.{xor}
 use Rattle.std.specs.Int.Signed.{lt_z}
 use Rattle.maxatom.specs.Rule.{satisfied}

@@ -1,21 +1,19 @@
 -- Loops over a whole assignment: tests, the sum, and clearing. Assumes nothing.
 use mathlib.Core.Path.{◌≡◌, refl, sym, ap, subst, ◌∙◌}
-use mathlib.Core.Logic.{◌⊎◌, inl, inr, ⊎_elim}
-use mathlib.Core.Bool.{Bool, true, false, ◌&&◌}
+use mathlib.Core.Bool.{Bool, true, false}
 use mathlib.Core.List.{List, [], ◌∷◌}
 use Prim.Native.Nat.{ℕ, zero, suc, ◌+◌, ◌*◌, ◌<◌, ◌≤◌, ◌^◌}
 use native.Mathlib.Numerals.{add-one}
 use native.Mathlib.Omega.{arith}
-use lib.ListN.{length, drop, get_or, set, replicate, length-set, length-replicate, get_or-replicate, drop_of_length-le}
+use lib.ListN.{length, drop, set, replicate, length-set, length-replicate, get_or-replicate, drop_of_length-le}
 use lib.Seq.{drop-cons, ext_get_or, get_or-set_same}
 use native.Mathlib.Decide.{dec_lt}
 use lib.IntN.{ℤ, pos, nat_abs, neg_ℤ, ◌+ℤ◌}
-use lib.Signed.{◌≤ℤ◌, le_z, lt_z}
-use lib.Dec.{eqb, leb}
+use lib.Signed.{◌≤ℤ◌, lt_z}
+use lib.Dec.{leb}
 use Rattle.maxatom.specs.Rule.{time_at, eq_z}
 use Rattle.maxatom.specs.Book.{NotAfterZero, minus}
-use Rattle.maxatom.proofs.Choose.{clash}
-use Rattle.maxatom.proofs.Integers.{up, dn, le_make, le_read, lt_true, lt_false, false_le, true_le, add_parts, neg_parts, abs_parts, up_zero, eq_make, true_eq, eq_true, by_test}
+use Rattle.maxatom.proofs.Integers.{up, le_make, lt_true, lt_false, false_le, true_le, add_parts, neg_parts, abs_parts, up_zero, eq_make, true_eq, eq_true, by_test}
 use Rattle.maxatom.proofs.Lists.{set_time}
 use Rattle.derivation.specs.declared.Tally.{Tally}
 use Rattle.derivation.specs.Step.{in_range, below_floor, sum_z, fits}

@@ -1,4 +1,4 @@
-use Rattle.std.proofs.Common.{rules, arith}
+use Rattle.std.proofs.Common.{rules}
 use borrow.Author.Tests.{le-leb, lt-leb}
 use Rattle.derivation.specs.Refusals.{job_outside, offset_outside}
 use Rattle.table.specs.Faults.{fault_of}

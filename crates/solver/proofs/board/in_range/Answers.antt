@@ -1,4 +1,4 @@
-use Rattle.std.proofs.Common.{rules, arith, false, ◌*◌}
+use Rattle.std.proofs.Common.{rules, arith, false}
 use mir.Facts.{to_z-of_z}
 use mir.Syntax.{w32}
 use mir.Val.{SFits}

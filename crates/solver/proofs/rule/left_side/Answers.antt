@@ -3,7 +3,6 @@ use mir.Facts.{to_z-of_z}
 use mir.Syntax.{w32, w64}
 use mir.Val.{SFits}
 use Rattle.maxatom.specs.Rule.{time_at, left_side}
-use Rattle.table.proofs.Signed.{told}
 use Rattle.solver.proofs.rule.left_side.Goals as goal
 
 pub returns : goal.returns
