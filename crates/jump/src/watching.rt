@@ -53,7 +53,7 @@ pub fn period(marks: &[u16], seen: usize, mask: u16) -> usize
 
 // How the watch stands: the steps of the passes it took at once, the marks seen, how many to see before the next look, and how many
 // passes to let go unwatched.
-#[derive(Drop)]
+#[derive(Clone, Copy)]
 pub struct Watched {
     pub steps: u64,
     pub seen: usize,
