@@ -11,7 +11,7 @@ use solver::{is_satisfied, left_side, lower};
 use table::rule_at;
 
 // How a rule stands: kept; violated, with a left side at or above the floor; or neither, or not alike.
-#[derive(Drop)]
+#[derive(Clone, Copy)]
 pub enum Stand {
     Satisfied,
     Low,

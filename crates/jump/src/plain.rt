@@ -12,7 +12,7 @@ use table::rule_at;
 
 // What a plain pass made: whether a job would fall below the floor; its steps; the last rule stepped on; and a sum of the minutes taken
 // off, weighed by the rules.
-#[derive(Drop)]
+#[derive(Clone, Copy)]
 pub struct Plain {
     pub fell: bool,
     pub steps: u64,
@@ -92,7 +92,7 @@ fn goes_on(p: Plain, sum: u64) -> bool
 }
 
 // Whether all passes were made, and their steps, or none.
-#[derive(Drop)]
+#[derive(Clone, Copy)]
 pub struct Passes {
     pub made: bool,
     pub steps: u64,
