@@ -1,4 +1,4 @@
-use Rattle.std.proofs.Common.{◌≡◌, ◌<◌, ◌^◌, refl, arith}
+use Rattle.std.proofs.Common.{◌<◌, ◌^◌, refl, arith}
 use borrow.Author.Tests.{eq-eqb, ne_eqb}
 use lib.Signed.{mag}
 use Rattle.maxatom.specs.Class.{tautology}

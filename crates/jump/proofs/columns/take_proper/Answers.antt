@@ -1,7 +1,4 @@
-use Rattle.std.proofs.Common.{◌≡◌, Bool, sym, arith}
-use Rattle.maxatom.specs.Class.{tautology}
-use Rattle.maxatom.specs.declared.Rule.{Rule}
-use Rattle.table.specs.Columns.{rule_of}
+use Rattle.std.proofs.Common.{sym}
 use Rattle.jump.proofs.Taking.{filling_none, filling_skip, filling_put, filling_all, proper_skip, proper_put, proper_none}
 use Rattle.jump.proofs.columns.take_proper.Goals as goal
 

@@ -1,8 +1,6 @@
-use Rattle.std.proofs.Common.{◌≡◌, ◌∙◌, ◌≤◌, ◌+◌, ◌*◌, length, ℤ, subst, arith}
+use Rattle.std.proofs.Common.{◌≡◌, ◌∙◌, length, arith}
 use mir.Facts.{to_z-of_z}
-use Rattle.table.specs.Columns.{rules_of}
-use Rattle.jump.specs.Leaps.{Leapt}
-use Rattle.jump.proofs.Jumping.{leapt, leap_small}
+use Rattle.jump.proofs.Jumping.{leapt}
 use Rattle.jump.proofs.leaping.leap.Goals as goal
 
 -- after the copy: what was tested

@@ -1,4 +1,4 @@
-use Rattle.std.proofs.Common.{◌≡◌, sym, ap, ◌∙◌, ℕ, ◌*◌, pos, ◌+ℤ◌, ◌≤ℤ◌, get_or, rules, SFits, w32, w64, arith}
+use Rattle.std.proofs.Common.{◌≡◌, ap, ◌∙◌, ℕ, pos, ◌+ℤ◌, ◌≤ℤ◌, rules, SFits, w32, w64, arith}
 use mir.Facts.{to_z-of_z}
 use Rattle.maxatom.specs.Rule.{time_at}
 use Rattle.maxatom.proofs.Integers.{lt_false}

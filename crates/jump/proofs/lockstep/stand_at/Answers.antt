@@ -1,8 +1,8 @@
-use Rattle.std.proofs.Common.{◌≡◌, sym, ap, arith}
+use Rattle.std.proofs.Common.{arith}
 use mir.Syntax.{w32, w64}
 use mir.Val.{SFits}
 use mir.Facts.{to_z-of_z}
-use Rattle.maxatom.specs.Rule.{time_at, left_side, satisfied}
+use Rattle.maxatom.specs.Rule.{time_at, satisfied}
 use Rattle.table.proofs.Signed.{widened}
 use Rattle.jump.proofs.lockstep.stand_at.Goals as goal
 
