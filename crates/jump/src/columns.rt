@@ -8,6 +8,7 @@ use maxatom::Rule;
 use table::{put, rule_at};
 
 // A rule that no times violate.
+#[tactic(auto, unfolding(maxatom::specs::Class::tautology), using(table::proofs::Signed::told))]
 fn is_tautology(r: Rule) -> bool
     ensures { result ≡ tautology r }
 {
