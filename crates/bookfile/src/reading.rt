@@ -12,7 +12,7 @@ use maxatom::Rule;
 use table::fault;
 
 // What reading one record says: its rule, or the number of its refusal.
-#[derive(Drop)]
+#[derive(Clone, Copy)]
 pub enum Item {
     Taken(Rule),
     Refused(u8),
@@ -225,7 +225,7 @@ fn begin(file: &[u8], number: usize) -> usize
 }
 
 // A stretch of a file: its first byte, and how many there are.
-#[derive(Drop)]
+#[derive(Clone, Copy)]
 pub struct Stretch {
     pub at: usize,
     pub size: usize,
