@@ -95,6 +95,7 @@ pub fn next_record(file: &[u8], at: usize) -> usize
 }
 
 // The record that begins at a byte, count rules already read: its checks in order.
+#[tactic(auto, using(crate::proofs::Records::no_mark), unfolding(crate::specs::Replies::item_reply))]
 fn read_record(file: &[u8], jobs: usize, count: usize, at: usize) -> Item
     requires { at ≤ length file.now }
     ensures { item_reply at result ≡ rule_reply jobs file.now count at }

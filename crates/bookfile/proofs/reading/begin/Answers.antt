@@ -1,8 +1,6 @@
 use mathlib.Core.Path.{◌≡◌, subst}
-use Prim.Native.Nat.{ℕ, ◌+◌, ◌≤◌}
+use Prim.Native.Nat.{ℕ}
 use native.Mathlib.Omega.{arith}
-use lib.ListN.{length}
-use Rattle.bookfile.specs.Reading.{size_at}
 use Rattle.bookfile.specs.Replies.{Begins}
 use Rattle.bookfile.proofs.Records.{size_bounds}
 use Rattle.bookfile.proofs.Walks.{walked_none, walked_begins, walked_next}

@@ -1,17 +1,11 @@
 use mathlib.Core.Path.{◌≡◌, sym, ap, ◌∙◌}
-use Prim.Native.Nat.{◌+◌, ◌≤◌}
 use native.Mathlib.Omega.{arith}
-use lib.ListN.{length}
 use Rattle.table.specs.Faults.{fault_of}
 use Rattle.bookfile.specs.Numbers.{word}
 use Rattle.bookfile.specs.Reading.{size_of, size_at, rule_at}
 use Rattle.bookfile.specs.Replies.{mark_fault, item_reply}
-use Rattle.bookfile.proofs.Records.{no_mark, mark_said, cut, fault_said, taken}
+use Rattle.bookfile.proofs.Records.{mark_said, cut, fault_said, taken}
 use Rattle.bookfile.proofs.reading.read_record.Goals as goal
-
-pub returns-then-file-at-lt2 : goal.returns-then-file-at-lt2
-unfolding item_reply
-returns-then-file-at-lt2 c = sym (no_mark _ _ _ _ (omega arith))
 
 pub returns-then-f-ne0 : goal.returns-then-f-ne0
 unfolding item_reply

@@ -1,11 +1,9 @@
-use mathlib.Core.Path.{sym, ap, ◌∙◌}
-use Prim.Native.Nat.{◌+◌}
+use mathlib.Core.Path.{sym}
 use native.Mathlib.Omega.{arith}
 use Rattle.derivation.specs.Replies.{read_of}
-use Rattle.bookfile.specs.Reading.{size_at}
 use Rattle.bookfile.specs.Replies.{item_reply}
 use Rattle.bookfile.proofs.Records.{size_bounds}
-use Rattle.bookfile.proofs.Rules.{Scanned, scanned_none, scanned_next, scanned_not, scanned_all}
+use Rattle.bookfile.proofs.Rules.{scanned_none, scanned_next, scanned_not, scanned_all}
 use Rattle.bookfile.proofs.reading.scan.Goals as goal
 
 pub loop-at-init : goal.loop-at-init
