@@ -6,9 +6,7 @@ use Rattle.bookfile.specs.Numbers.{word}
 use Rattle.bookfile.specs.Reading.{BK, known, size_at, rule_at, head_checks, Entry, rules_of, book_reply, entries}
 use Rattle.derivation.specs.declared.Counts.{Counts}
 use Rattle.derivation.specs.declared.Read.{Read}
-use Rattle.derivation.specs.declared.Read.TheVariants as Read
 use Rattle.bookfile.specs.declared.reading.Item.{Item}
-use Rattle.bookfile.specs.declared.reading.Item.TheVariants as Item
 
 -- the number said of a mark, 0 where none is; `count` rules already read
 unfoldable pub full_fault : ℕ → ℕ

@@ -9,6 +9,7 @@ fn wide(b: u8) -> u16
 }
 
 // 16 bits unsigned.
+#[tactic(auto, unfolding(crate::specs::Numbers::word))]
 pub fn word(bytes: &[u8], at: usize) -> u16
     requires { at + 2 ≤ length bytes.now }
     ensures { result ≡ word bytes.now at }
@@ -25,6 +26,7 @@ fn wider(w: u16) -> u32
 }
 
 // 32 bits unsigned.
+#[tactic(auto, unfolding(crate::specs::Numbers::long))]
 pub fn long(bytes: &[u8], at: usize) -> u32
     requires { at + 4 ≤ length bytes.now }
     ensures { result ≡ long bytes.now at }

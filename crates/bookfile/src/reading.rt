@@ -12,13 +12,14 @@ use maxatom::Rule;
 use table::fault;
 
 // What reading one record says: its rule, or the number of its refusal.
-#[derive(Drop)]
+#[derive(Clone, Copy)]
 pub enum Item {
     Taken(Rule),
     Refused(u8),
 }
 
 // 5 for a rule past the 1,024th, else 0.
+#[tactic(auto, unfolding(crate::specs::Replies::full_fault))]
 fn full(count: usize) -> u8
     ensures { result ≡ full_fault count }
 {
@@ -26,6 +27,7 @@ fn full(count: usize) -> u8
 }
 
 // 2 for an unknown mark, else 3 for BK, else 5 for a rule past the 1,024th, else 0.
+#[tactic(auto, unfolding(crate::specs::Replies::mark_fault, crate::specs::Reading::known))]
 fn mark_fault(mark: u16, count: usize) -> u8
     ensures { result ≡ mark_fault mark count }
 {
@@ -42,12 +44,14 @@ fn mark_fault(mark: u16, count: usize) -> u8
 }
 
 // Bytes in all of a rule's record.
+#[tactic(auto, unfolding(crate::specs::Reading::size_of))]
 fn size_of(mark: u16) -> usize
     ensures { result ≡ size_of mark }
 {
     if mark == 21064 { 10 } else { 12 }
 }
 
+#[tactic(auto, unfolding(crate::specs::Reading::size_at))]
 fn size_at(file: &[u8], at: usize) -> usize
     requires { at + 2 ≤ length file.now }
     ensures { result ≡ size_at file.now at }
@@ -82,6 +86,7 @@ pub fn rule_at(file: &[u8], at: usize) -> Rule
 }
 
 // The byte where the record after it begins.
+#[tactic(auto, using(crate::proofs::Records::size_bounds))]
 pub fn next_record(file: &[u8], at: usize) -> usize
     requires { at + size_at file.now at ≤ length file.now }
     ensures { result ≡ at + size_at file.now at }
@@ -90,6 +95,7 @@ pub fn next_record(file: &[u8], at: usize) -> usize
 }
 
 // The record that begins at a byte, count rules already read: its checks in order.
+#[tactic(auto, using(crate::proofs::Records::no_mark), unfolding(crate::specs::Replies::item_reply))]
 fn read_record(file: &[u8], jobs: usize, count: usize, at: usize) -> Item
     requires { at ≤ length file.now }
     ensures { item_reply at result ≡ rule_reply jobs file.now count at }
@@ -114,6 +120,7 @@ fn read_record(file: &[u8], jobs: usize, count: usize, at: usize) -> Item
 }
 
 // What is said of the first mark: 2 where it is unknown, else 3 where it is not BK, else 0.
+#[tactic(auto, unfolding(crate::specs::Replies::first_fault, crate::specs::Reading::known))]
 fn first_fault(mark: u16) -> u8
     ensures { result ≡ first_fault mark }
 {
@@ -129,6 +136,7 @@ fn first_fault(mark: u16) -> u8
     2
 }
 
+#[tactic(auto, unfolding(derivation::specs::Replies::outcome_reply))]
 fn refuse(number: u8) -> Outcome
     ensures { outcome_reply result ≡ refused number 0 }
 {
@@ -218,7 +226,7 @@ fn begin(file: &[u8], number: usize) -> usize
 }
 
 // A stretch of a file: its first byte, and how many there are.
-#[derive(Drop)]
+#[derive(Clone, Copy)]
 pub struct Stretch {
     pub at: usize,
     pub size: usize,
@@ -272,6 +280,7 @@ pub fn read_within(file: &[u8], room: usize) -> Read
 }
 
 // How many rules are to be written: none where the file is refused.
+#[tactic(auto, unfolding(crate::specs::Replies::count_of))]
 pub fn count_of(r: Read) -> usize
     ensures { result ≡ count_of r }
 {

@@ -14,7 +14,7 @@ use solver::{below_floor, in_range, is_equality, is_satisfied, lower, tally_fits
 use table::floor;
 
 // The checks of a table's entries, and the entry of the number that is asked for.
-#[derive(Drop)]
+#[derive(Clone, Copy)]
 pub struct Chosen {
     pub scan: Scan,
     pub rule: Rule,
@@ -67,7 +67,7 @@ pub fn tightness(n: usize, count: usize, c: Chosen, times: &[i32], number: usize
 }
 
 // The reply of a hand step, and the tally after it.
-#[derive(Drop)]
+#[derive(Clone, Copy)]
 pub struct StepOut {
     pub said: Outcome,
     pub tally: Tally,

@@ -11,7 +11,7 @@ use maxatom::Rule;
 use solver::is_satisfied;
 
 // The checks of the entries so far, and how many of them are satisfied before the first that is not.
-#[derive(Drop)]
+#[derive(Clone, Copy)]
 pub struct Modelled {
     pub scan: Scan,
     pub held: usize,

@@ -10,7 +10,7 @@ use table::{fault, size_of};
 
 // Entries that have passed their checks, from the first on: how many, and the sum of their offsets without signs. `fault` is the number
 // that is said of the entry after them, 0 where nothing is.
-#[derive(Drop)]
+#[derive(Clone, Copy)]
 pub struct Scan {
     pub at: usize,
     pub total: u32,
