@@ -15,10 +15,12 @@ use Rattle.derivation.specs.Step.{rule_at}
 use Rattle.derivation.specs.Run.{Run, pass, fell, unfinished}
 use Rattle.table.specs.Columns.{rule_of, rules_from, rules_of}
 use Rattle.table.proofs.Rows.{rows_at, rows_end, rows_length}
+use Rattle.solver.specs.Rules.{Named}
+use Rattle.solver.proofs.Laws.{named}
 use Rattle.run.specs.Blocks.{Marked, Reads, Settled}
 use Rattle.run.specs.Passing.{Running, Parted, run_of}
 use Rattle.run.specs.declared.passing.PassOut.{PassOut}
-use Rattle.run.proofs.Runs.{Going, going_none, going_kept, going_low, going_fell, going_all}
+use Rattle.run.proofs.Runs.{size_of_lem, Going, going_none, going_kept, going_low, going_fell, going_all}
 use Rattle.run.proofs.Settling.{settled_kept, settled_low, settled_all, settled_block, settled_kept_block}
 
 -- the rules of a part before i are passed
@@ -38,6 +40,10 @@ module _ {xs ys zs : List ℕ} {ks : List ℤ} {count from to : ℕ} {noted : Bo
 
   abbrev rule : Rule
   rule = rule_of xs ys zs ks i
+
+  -- the jobs of rule i are jobs of the times
+  pub parting_named : i < to → Named rule (length b)
+  parting_named h = rw (size_of_lem g.going.running) (named xs ys zs ks count i g.going.running.accepted (omega arith))
 
   module _ (h : i < to) where
     at : rule_at rules i ≡ rule

@@ -1,18 +1,13 @@
-use Rattle.std.proofs.Common.{rules, ◌≡◌, Bool, true, false, ℕ, ◌+◌, ◌*◌, ◌<◌, ◌≤◌, min, length, ℤ, SFits, ◌-◌, ◌/◌, ◌%◌, nat_eq, nat_lt, List, [], ◌∷◌, ◌++◌, slice_index_or, slice_set, bit_and, bit_or, Fits, w8, w64, Bor, MutBor, pos, ◌+ℤ◌, ◌-ℤ◌, ◌*ℤ◌, ◌≤ℤ◌, ◌<ℤ◌, to_z, of_z}
-use Rattle.std.specs.Int.{w32}
-use Rattle.maxatom.specs.Book.{floor}
-use Rattle.maxatom.specs.Rule.{left_side, satisfied}
-use Rattle.derivation.specs.Run.{pass}
-use Rattle.table.specs.Columns.{rules_of, Columns}
-use Rattle.solver.specs.Rules.{Named}
-use Rattle.run.specs.Blocks.{Reads, Settled, Tracked}
-use Rattle.run.specs.Passing.{run_of, Running, Parted}
+use Rattle.std.proofs.Common.{arith}
+use Rattle.table.proofs.Rows.{rows_length}
+use Rattle.run.proofs.Settling.{settled_none, settled_all}
+use Rattle.run.proofs.Parts.{parted_whole}
 use Rattle.run.proofs.passing.pass.Goals as goal
 
--- src/passing.rt:194:1
 pub returns-clause-times_after : goal.returns-clause-times_after
-returns-clause-times_after c = ?
+returns-clause-times_after c = rw c.requires.f_value (parted_whole c.part.ensures.parted)
 
--- src/passing.rt:194:1
 pub returns-clause-settled : goal.returns-clause-settled
-returns-clause-settled c = ?
+returns-clause-settled c n f =
+    let a = c.args in
+    settled_all (c.part.ensures.settled n (settled_none (omega (arith, rows_length a.xs.now a.ys.now a.zs.now a.ks.now 0 a.count))) f)
