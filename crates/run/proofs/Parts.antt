@@ -15,10 +15,12 @@ use Rattle.derivation.specs.Step.{rule_at}
 use Rattle.derivation.specs.Run.{Run, pass, fell, unfinished}
 use Rattle.table.specs.Columns.{rule_of, rules_from, rules_of}
 use Rattle.table.proofs.Rows.{rows_at, rows_end, rows_length}
+use Rattle.solver.specs.Rules.{Named}
+use Rattle.solver.proofs.Laws.{named}
 use Rattle.run.specs.Blocks.{Marked, Reads, Settled}
 use Rattle.run.specs.Passing.{Running, Parted, run_of}
 use Rattle.run.specs.declared.passing.PassOut.{PassOut}
-use Rattle.run.proofs.Runs.{Going, going_none, going_kept, going_low, going_fell, going_all}
+use Rattle.run.proofs.Runs.{size_of_lem, Going, going_none, going_kept, going_low, going_fell, going_all}
 use Rattle.run.proofs.Settling.{settled_kept, settled_low, settled_all, settled_block, settled_kept_block}
 
 -- the rules of a part before i are passed
@@ -38,6 +40,10 @@ module _ {xs ys zs : List ℕ} {ks : List ℤ} {count from to : ℕ} {noted : Bo
 
   abbrev rule : Rule
   rule = rule_of xs ys zs ks i
+
+  -- the jobs of rule i are jobs of the times
+  pub parting_named : i < to → Named rule (length b)
+  parting_named h = rw (size_of_lem g.going.running) (named xs ys zs ks count i g.going.running.accepted (omega arith))
 
   module _ (h : i < to) where
     at : rule_at rules i ≡ rule
@@ -115,12 +121,12 @@ module _ {xs ys zs : List ℕ} {ks : List ℤ} {count : ℕ} {b : List ℤ} {s :
       go false f = run_on out b' refl f ∙ (sym (passed_all (p.rest f)) ∙ begin)
 
 -- rules that are satisfied are passed over
-pub going_over : {xs ys zs : List ℕ} {ks : List ℤ} {count from : ℕ} {b₀ : List ℤ} {s₀ : ℕ} {b : List ℤ} {s i : ℕ} → Going xs ys zs ks count from b₀ s₀ b s i → (n : ℕ) → i + n ≤ count →
+pub going_over : {xs ys zs : List ℕ} {ks : List ℤ} {count from : ℕ} {b₀ : List ℤ} {s₀ : ℕ} {b : List ℤ} {s : ℕ} (n : ℕ) {i : ℕ} → Going xs ys zs ks count from b₀ s₀ b s i → i + n ≤ count →
     ((j : ℕ) → i ≤ j → j < i + n → satisfied (rule_of xs ys zs ks j) b ≡ true) → Going xs ys zs ks count from b₀ s₀ b s (i + n)
-going_over {xs = xs} {ys = ys} {zs = zs} {ks = ks} {count = count} {from = from} {b₀ = b₀} {s₀ = s₀} {b = b} {s = s} {i = i} g zero h kept = subst (λ (k : ℕ). Going xs ys zs ks count from b₀ s₀ b s k) (omega arith) g
-going_over {xs = xs} {ys = ys} {zs = zs} {ks = ks} {count = count} {from = from} {b₀ = b₀} {s₀ = s₀} {b = b} {s = s} {i = i} g (suc n) h kept =
+going_over {xs = xs} {ys = ys} {zs = zs} {ks = ks} {count = count} {from = from} {b₀ = b₀} {s₀ = s₀} {b = b} {s = s} zero {i = i} g h kept = subst (λ (k : ℕ). Going xs ys zs ks count from b₀ s₀ b s k) (omega arith) g
+going_over {xs = xs} {ys = ys} {zs = zs} {ks = ks} {count = count} {from = from} {b₀ = b₀} {s₀ = s₀} {b = b} {s = s} (suc n) {i = i} g h kept =
     subst (λ (k : ℕ). Going xs ys zs ks count from b₀ s₀ b s k) (omega arith)
-    (going_over (going_kept g (omega arith) (kept i (omega arith) (omega arith))) n (omega arith) (λ j l u. kept j (omega arith) (omega arith)))
+    (going_over n {i = i + 1} (going_kept g (omega arith) (kept i (omega arith) (omega arith))) (omega arith) (λ j l u. kept j (omega arith) (omega arith)))
 
 -- the blocks of a pass before one are passed
 pub record Blocking (xs ys zs : List ℕ) (ks : List ℤ) (count : ℕ) (b₀ : List ℤ) (s₀ : ℕ) (b : List ℤ) (s m block : ℕ) : Type 0 where
@@ -150,7 +156,7 @@ module _ {xs ys zs : List ℕ} {ks : List ℤ} {count : ℕ} {b₀ : List ℤ} {
         record {
           few = omega arith;
           going = subst (λ (k : ℕ). Going xs ys zs ks count 0 b₀ s₀ b s k) (omega arith)
-              (going_over (subst (λ (k : ℕ). Going xs ys zs ks count 0 b₀ s₀ b s k) (omega arith) g.going) (end - block * 16) (omega arith)
+              (going_over (end - block * 16) (subst (λ (k : ℕ). Going xs ys zs ks count 0 b₀ s₀ b s k) (omega arith) g.going) (omega arith)
               (λ j l u. ap (λ (t : Rule). satisfied t b) (sym (rows_at xs ys zs ks count j (omega arith))) ∙ settled_kept_block g.settled clear j l (rw size (omega arith))));
           settled = g.settled;
         }

@@ -21,14 +21,14 @@ use Rattle.derivation.specs.Step.{rule_at}
 use Rattle.run.specs.Blocks.{Marked, Marking, Reads, Settled, Tracked}
 
 -- bits of a word
-bit_or : (a b k : ℕ) → bit_or a b / 2 ^ k % 2 ≡ max (a / 2 ^ k % 2) (b / 2 ^ k % 2)
-bit_or a b k = rw (or_shr a b k) (omega (arith, or_step (a / 2 ^ k) (b / 2 ^ k)))
+either_bit : (a b k : ℕ) → bit_or a b / 2 ^ k % 2 ≡ max (a / 2 ^ k % 2) (b / 2 ^ k % 2)
+either_bit a b k = rw (or_shr a b k) (omega (arith, or_step (a / 2 ^ k) (b / 2 ^ k)))
 
 pub or_left : (a b : ℕ) {k : ℕ} → Marked a k → Marked (bit_or a b) k
-or_left a b {k = k} h = record { set = omega (arith, h.set, bit_or a b k) }
+or_left a b {k = k} h = record { set = omega (arith, h.set, either_bit a b k) }
 
 pub or_right : (a b : ℕ) {k : ℕ} → Marked b k → Marked (bit_or a b) k
-or_right a b {k = k} h = record { set = omega (arith, h.set, bit_or a b k) }
+or_right a b {k = k} h = record { set = omega (arith, h.set, either_bit a b k) }
 
 pub bit_own : (k : ℕ) → Marked (2 ^ k) k
 bit_own k = record { set = rw (div_self (pow_pos k)) refl }
