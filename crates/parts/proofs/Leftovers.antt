@@ -134,6 +134,7 @@ module _ (P : ℕ → Type 0) (labels : List ℕ) (times : List ℤ) (r : Rule) 
       of : {arm : Arm} → In arm (record { job = a; offset = r.k } ∷ record { job = b; offset = r.k } ∷ []) → P arm.job
       of here = here_in a p
       of (there here) = here_in b q
+      of {arm = arm} (there (there x)) = elim x [ ]
 
   pub leftover_within : Each (λ s. Within P (clause_of s)) (leftover (arms_left labels times r) r)
   unfolding leftover

@@ -9,7 +9,7 @@ use maxatom::Rule;
 use table::{put, rule_at};
 
 // Both arms; one of them; or nothing, since another part keeps the rule.
-#[derive(Drop)]
+#[derive(Clone, Copy)]
 pub enum Arms {
     Both,
     First,
