@@ -47,6 +47,6 @@ loop-g-preserved c =
       far_size = omega (arith, c.advance-a.auto.far, v.far_size);
       ahead_size = omega (arith, c.advance-a.auto.times, v.ahead_size);
       goes = rw c.either-busy.ensures
-          (ahead_next v.goes (c.choose.ensures c.if-not-choose.false) c.fill-m.ensures.result_after
-              (c.advance-a.ensures.advanced c.if-not-made.false));
+          (ahead_next v.goes (c.choose.ensures c.if-not-choose.false) {part = rules_of c.fill-m.new.pxs c.fill-m.new.pys c.fill-m.new.pzs c.fill-m.new.pks c.fill-m.result}
+              c.fill-m.ensures.result_after (c.advance-a.ensures.advanced c.if-not-made.false));
     }
