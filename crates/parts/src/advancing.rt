@@ -11,7 +11,7 @@ use crate::trimming::fill;
 use jump::{copy, earlier, leap, plain_pass, plain_passes, wide};
 
 // What an advance made: whether all its passes; whether each has a step; and the steps.
-#[derive(Drop)]
+#[derive(Clone, Copy)]
 pub struct Progress {
     pub made: bool,
     pub busy: bool,

@@ -17,7 +17,7 @@ use crate::guessing::{label, longest, measure, passes_left};
 use jump::{copy, take_proper, watch};
 
 // How the parts stand: the steps taken by them, the passes since the last try, and how many to wait for the next.
-#[derive(Drop)]
+#[derive(Clone, Copy)]
 struct Waited {
     steps: u64,
     since: usize,
@@ -25,7 +25,7 @@ struct Waited {
 }
 
 // How many parts, and how many passes to try.
-#[derive(Drop)]
+#[derive(Clone, Copy)]
 struct Found {
     parts: u16,
     most: u64,
@@ -478,7 +478,7 @@ fn part_ways(
 }
 
 // What was taken at once after a pass, and how the watch and the parts stand.
-#[derive(Drop)]
+#[derive(Clone, Copy)]
 pub struct Jumped {
     pub steps: u64,
     pub seen: usize,
