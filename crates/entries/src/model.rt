@@ -27,6 +27,7 @@ pub fn model_none() -> Modelled
 }
 
 // One entry more. Times of another number than n are not looked at.
+#[tactic(auto, using(crate::proofs::Modelling::model_ended))]
 pub fn model_next(n: usize, m: Modelled, r: Rule, times: &[i32]) -> Modelled
     requires { Room m.scan }
     ensures { result ≡ modelled n times.now m r }

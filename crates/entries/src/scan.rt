@@ -68,6 +68,7 @@ fn refuse(number: u8, place: usize) -> Outcome
 }
 
 // The checks of a table of `count` entries with `size` times: 4, 5, what the scan says, 21.
+#[tactic(auto, using(crate::proofs::Scanning::check_few), unfolding(derivation::specs::Replies::outcome_reply))]
 pub fn check(n: usize, count: usize, s: Scan, size: usize) -> Outcome
     ensures { outcome_reply result ≡ verdict (scan_checks n count s ++ (check (not (eqb size n)) 21 0 ∷ [])) }
 {

@@ -1,6 +1,5 @@
 use mathlib.Core.Path.{sym, ◌∙◌}
 use native.Mathlib.Omega.{arith}
-use borrow.Author.Tests.{not-true, not-false}
 use Rattle.derivation.specs.Replies.{outcome_reply}
 use Rattle.solver.proofs.Steps.{range_early}
 use Rattle.entries.proofs.Choosing.{call_then_refused, call_then, first_passed, held_range, held_tally, held_rule}

@@ -1,7 +1,6 @@
 use mathlib.Core.Path.{◌≡◌, sym, ◌∙◌}
 use native.Mathlib.Omega.{arith}
 use Rattle.table.proofs.Signed.{told}
-use Rattle.maxatom.specs.Rule.{satisfied}
 use Rattle.maxatom.specs.Book.{minus}
 use Rattle.derivation.specs.Replies.{outcome_reply, state_of}
 use Rattle.derivation.specs.Step.{below_floor, step_on}
@@ -47,7 +46,7 @@ overflow_add-result-2 c =
       tally_room _ _ _ c.requires.small c.requires.few c.requires.range c.requires.tally,
       c.lower-m.ensures.value,
       off_bound c.requires.small _ (early_at c.args.times.now (range_early _ _ c.requires.range)) (sym low ∙ c.if-below_floor.false) _
-      (c.requires.in_book c.if-count-number.false) (sym c.is_satisfied.ensures ∙ c.if-is_satisfied.false),
+          (c.requires.in_book c.if-count-number.false) (sym c.is_satisfied.ensures ∙ c.if-is_satisfied.false),
     )
 
 pub returns : goal.returns

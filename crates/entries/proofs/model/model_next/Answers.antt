@@ -1,10 +1,9 @@
 use mathlib.Core.Path.{◌≡◌, sym, ap, ◌∙◌}
 use Prim.Native.Nat.{ℕ}
-use Rattle.entries.specs.Scans.{scanned}
 use Rattle.entries.specs.declared.scan.Scan.{Scan}
 use Rattle.entries.specs.declared.model.Modelled.{Modelled}
 use Rattle.entries.proofs.Scanning.{fault_none, scan_passed}
-use Rattle.entries.proofs.Modelling.{model_refused, model_unsized, model_ended, model_holds, model_ends}
+use Rattle.entries.proofs.Modelling.{model_refused, model_unsized, model_holds, model_ends}
 use Rattle.entries.proofs.model.model_next.Goals as goal
 
 -- the scan after the entry, with a number of entries that hold
@@ -24,11 +23,6 @@ pub returns-then-times-n : goal.returns-then-times-n
 returns-then-times-n c =
     with_scan c.scan_next-after.ensures _
     ∙ sym (model_unsized _ _ _ _ (sym (the_fault c.scan_next-after.ensures) ∙ c.if-after-ne0.false) c.if-times-n.true)
-
-pub returns-then-held-before : goal.returns-then-held-before
-returns-then-held-before c =
-    with_scan c.scan_next-after.ensures _
-    ∙ sym (model_ended _ _ _ _ (sym (the_fault c.scan_next-after.ensures) ∙ c.if-after-ne0.false) c.if-times-n.false c.if-held-before.true)
 
 pub is_satisfied-requires : goal.is_satisfied-requires
 is_satisfied-requires c =

@@ -1,10 +1,6 @@
 use Rattle.derivation.specs.Replies.{outcome_reply}
-use Rattle.entries.proofs.Scanning.{check_few, check_many, check_long, check_fault, check_size, check_done}
+use Rattle.entries.proofs.Scanning.{check_many, check_long, check_fault, check_size, check_done}
 use Rattle.entries.proofs.scan.check.Goals as goal
-
-pub returns-then-n-lt1 : goal.returns-then-n-lt1
-unfolding outcome_reply
-returns-then-n-lt1 c = rw c.refuse.ensures (check_few _ _ _ _ c.if-n-lt1.true)
 
 pub returns-then-n-gt256 : goal.returns-then-n-gt256
 unfolding outcome_reply

@@ -1,5 +1,5 @@
 use Prim.Native.Nat.{ℕ}
-use mathlib.Core.Path.{◌≡◌, sym, ap, ◌∙◌}
+use mathlib.Core.Path.{sym, ap, ◌∙◌}
 use native.Mathlib.Omega.{arith}
 use Rattle.table.proofs.Signed.{told}
 use Rattle.entries.proofs.Scanning.{fault_none, scan_stays, scan_refuses, scan_passes}
