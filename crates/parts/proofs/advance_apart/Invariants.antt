@@ -9,7 +9,7 @@ invariant-loop-t l = record {
   passed : Passed (rules_of l.xs l.ys l.zs l.ks l.count) l.f l.initial.times l.times l.s;
   few : 1 ≤ l.t → l.s < 2 ^ 62;
   size : length l.times ≡ length l.initial.times;
-  sized : Sized (length l.initial.times) l.drops l.near l.far
+  sized : Sized (length l.initial.times) l.drops l.near l.far;
 }
 
 abbrev pub decreases-loop-t : goal.decreases-loop-t

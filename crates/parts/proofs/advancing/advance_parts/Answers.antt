@@ -48,5 +48,5 @@ loop-g-preserved c =
       ahead_size = omega (arith, c.advance-a.auto.times, v.ahead_size);
       goes = rw c.either-busy.ensures
           (ahead_next v.goes (c.choose.ensures c.if-not-choose.false) {part = rules_of c.fill-m.new.pxs c.fill-m.new.pys c.fill-m.new.pzs c.fill-m.new.pks c.fill-m.result}
-              c.fill-m.ensures.result_after (c.advance-a.ensures.advanced c.if-not-made.false));
+          c.fill-m.ensures.result_after (c.advance-a.ensures.advanced c.if-not-made.false));
     }
