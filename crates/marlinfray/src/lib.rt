@@ -38,6 +38,7 @@ fn reply(kind: u64, first: u64, second: u64) -> Words
     }
 }
 
+#[tactic(auto, unfolding(crate::specs::Exported::reply_words, derivation::specs::Replies::outcome_reply))]
 fn outcome_words(r: Outcome) -> Words
     ensures { result ≡ reply_words done_words (outcome_reply r) }
 {
@@ -47,6 +48,7 @@ fn outcome_words(r: Outcome) -> Words
     }
 }
 
+#[tactic(auto, unfolding(crate::specs::Exported::reply_words, derivation::specs::Replies::read_of))]
 fn read_words(r: Read) -> Words
     ensures { result ≡ reply_words count_words (read_of r) }
 {
@@ -56,6 +58,7 @@ fn read_words(r: Read) -> Words
     }
 }
 
+#[tactic(auto, unfolding(crate::specs::Exported::reply_words, crate::specs::Exported::check_words, derivation::specs::Replies::model_check_reply))]
 fn violated_words(r: FirstViolated) -> Words
     ensures { result ≡ reply_words check_words (model_check_reply r) }
 {
@@ -66,6 +69,7 @@ fn violated_words(r: FirstViolated) -> Words
     }
 }
 
+#[tactic(auto, unfolding(crate::specs::Exported::reply_words, crate::specs::Exported::tight_words, derivation::specs::Replies::tight_reply))]
 fn tightness_words(r: Tightness) -> Words
     ensures { result ≡ reply_words tight_words (tight_reply r) }
 {
@@ -76,6 +80,7 @@ fn tightness_words(r: Tightness) -> Words
     }
 }
 
+#[tactic(auto, unfolding(crate::specs::Exported::reply_words, crate::specs::Exported::end_words, derivation::specs::Replies::solved_reply))]
 fn solved_words(r: Solved) -> Words
     ensures { result ≡ reply_words run_words (solved_reply r) }
 {
@@ -112,6 +117,7 @@ pub extern "C" fn marlinfray_record(file: &[u8], number: usize, reply: &mut Word
 }
 
 // The class of a rule: 0 idle, 1 impossible, 2 one-armed, 3 two-armed.
+#[tactic(auto, unfolding(derivation::specs::Examples::class_number))]
 #[unsafe(no_mangle)]
 pub extern "C" fn marlinfray_class(x: u16, y: u16, z: u16, k: i32) -> u8
     ensures { result ≡ class_number (class_of (record { x = x; y = y; z = z; k = k })) }

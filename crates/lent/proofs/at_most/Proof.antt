@@ -1,6 +1,0 @@
-use native.Mathlib.Omega.{arith}
-use Rattle.lent.proofs.at_most.Statement.{statement}
-use Rattle.lent.proofs.at_most.Tie as tie
-
-pub at-most-spec : {M : Type 1} → statement M
-at-most-spec = tie.close (tie.spec (λ c. omega arith) (λ c. omega arith))
