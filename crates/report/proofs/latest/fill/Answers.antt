@@ -1,33 +1,31 @@
-use Rattle.std.proofs.Common.{rules, ◌≡◌, length, ◌≤◌, ℕ, ◌+◌, ◌-◌, ◌*◌, ◌<◌, ◌/◌, ◌%◌, Bool, true, false, nat_eq, nat_lt, List, [], ◌∷◌, ◌++◌, slice_index_or, slice_set, bit_and, bit_or, Fits, w8, w32, w64, Bor, MutBor, ℤ, pos, ◌+ℤ◌, ◌-ℤ◌, ◌*ℤ◌, ◌≤ℤ◌, ◌<ℤ◌, FitsSigned, to_z, of_z}
-use Rattle.maxatom.specs.Book.{Accepted, total}
-use Rattle.derivation.specs.Refusals.{answer}
-use Rattle.table.specs.Columns.{rules_of, Columns}
-use Rattle.bookfile.specs.Replies.{file_reply}
-use Rattle.bookfile.specs.Theorems.{rules_of_file}
-use Rattle.report.specs.Text.{Written}
-use Rattle.report.specs.Latest.{table_text, report_of}
+use Rattle.std.proofs.Common.{rules, ◌+◌}
+use lib.IntN.{nat_abs}
+use mir.Facts.{to_z-of_z}
+use mir.Syntax.{w32}
+use mir.Val.{SFits}
+use Rattle.bookfile.proofs.Walks.{listed}
+use Rattle.report.proofs.Reports.{filled_none, filled_inside, filled_next, filled_all}
 use Rattle.report.proofs.latest.fill.Goals as goal
 
--- src/latest.rt:35:5
 pub loop-i-init : goal.loop-i-init
-loop-i-init c = ?
+loop-i-init c = filled_none _ _ _ _ _ (listed _ c.requires.file_value)
 
--- src/latest.rt:36:13
 pub rule_at-r-requires : goal.rule_at-r-requires
-rule_at-r-requires c = ?
+rule_at-r-requires c = filled_inside _ c.requires.file_value c.loop-i.invariant c.loop-i-test.true
 
--- src/latest.rt:39:9
 pub next_record-at-requires : goal.next_record-at-requires
-next_record-at-requires c = ?
+next_record-at-requires c = filled_inside _ c.requires.file_value c.loop-i.invariant c.loop-i-test.true
 
--- src/latest.rt:35:5
 pub loop-i-preserved : goal.loop-i-preserved
-loop-i-preserved c = ?
+loop-i-preserved c =
+    let f : SFits w32 c.rule_at-r.result.k = search rules in
+    let size = rw (to_z-of_z f, c.rule_at-r.ensures) at c.size_of-k.ensures in
+    let n = c.put.auto in
+    rw (size, c.next_record-at.ensures)
+    (filled_next _ c.requires.file_value c.loop-i.invariant c.loop-i-test.true _ _ _ _ n.xs n.ys n.zs n.ks (rw c.rule_at-r.ensures at c.put.ensures))
 
--- src/latest.rt:18:1
 pub returns-clause-value : goal.returns-clause-value
-returns-clause-value c = ?
+returns-clause-value c = (filled_all _ c.requires.file_value c.loop-i.invariant c.loop-i-test.false).0
 
--- src/latest.rt:18:1
 pub returns-clause-count_after : goal.returns-clause-count_after
-returns-clause-count_after c = ?
+returns-clause-count_after c = (filled_all _ c.requires.file_value c.loop-i.invariant c.loop-i-test.false).1

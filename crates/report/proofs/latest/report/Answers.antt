@@ -1,17 +1,12 @@
-use Rattle.std.proofs.Common.{rules, ◌≡◌, length, ◌≤◌, ℕ, ◌+◌, ◌-◌, ◌*◌, ◌<◌, ◌/◌, ◌%◌, Bool, true, false, nat_eq, nat_lt, List, [], ◌∷◌, ◌++◌, slice_index_or, slice_set, bit_and, bit_or, Fits, w8, w32, w64, Bor, MutBor}
-use Rattle.maxatom.specs.Book.{Accepted, total}
-use Rattle.derivation.specs.Refusals.{answer}
-use Rattle.table.specs.Columns.{rules_of, Columns}
-use Rattle.bookfile.specs.Replies.{file_reply}
-use Rattle.bookfile.specs.Theorems.{rules_of_file}
-use Rattle.report.specs.Text.{Written}
-use Rattle.report.specs.Latest.{table_text, report_of}
+use Rattle.std.proofs.Common.{◌∙◌, sym, ap}
+use Rattle.derivation.specs.Replies.{read_of}
+use Rattle.report.proofs.Reports.{report_refused}
 use Rattle.report.proofs.latest.report.Goals as goal
 
--- src/latest.rt:91:26
 pub book_text-requires : goal.book_text-requires
-book_text-requires c = ?
+unfolding read_of
+book_text-requires c = sym c.examine.ensures ∙ ap read_of c.in-Book.is
 
--- src/latest.rt:85:1
 pub returns-in-Refused-clause-written : goal.returns-in-Refused-clause-written
-returns-in-Refused-clause-written c = ?
+unfolding read_of
+returns-in-Refused-clause-written c = rw (← report_refused _ (sym c.examine.ensures ∙ ap read_of c.in-Refused.is)) c.refused_line.ensures.written

@@ -1,21 +1,16 @@
-use Rattle.std.proofs.Common.{rules, ◌≡◌, length, ◌≤◌, ℕ, ◌+◌, ◌-◌, ◌*◌, ◌<◌, ◌/◌, ◌%◌, Bool, true, false, nat_eq, nat_lt, List, [], ◌∷◌, ◌++◌, slice_index_or, slice_set, bit_and, bit_or, Fits, w8, w32, w64, Bor, MutBor}
-use Rattle.maxatom.specs.Book.{Accepted, total}
-use Rattle.derivation.specs.Refusals.{answer}
-use Rattle.table.specs.Columns.{rules_of, Columns}
-use Rattle.bookfile.specs.Replies.{file_reply}
-use Rattle.bookfile.specs.Theorems.{rules_of_file}
-use Rattle.report.specs.Text.{Written}
-use Rattle.report.specs.Latest.{table_text, report_of}
+use Rattle.std.proofs.Common.{◌≡◌, length, refl, sym}
+use Rattle.table.proofs.Rows.{rows_length}
+use Rattle.report.proofs.Reports.{table_plan, table_none, not_refused}
 use Rattle.report.proofs.latest.table_text.Goals as goal
 
--- src/latest.rt:46:1
 pub returns-in-Refused-clause-written : goal.returns-in-Refused-clause-written
-returns-in-Refused-clause-written c = ?
+returns-in-Refused-clause-written c = absurd (not_refused _ _ _ c.solve.ensures c.in-Refused.is)
 
--- src/latest.rt:46:1
 pub returns-in-Plan-clause-written : goal.returns-in-Plan-clause-written
-returns-in-Plan-clause-written c = ?
+returns-in-Plan-clause-written c = rw (← table_plan _ _ _ c.requires.accepted refl _ _ c.solve.ensures c.in-Plan.is) c.plan_text.ensures.written
 
--- src/latest.rt:46:1
 pub returns-in-None-clause-written : goal.returns-in-None-clause-written
-returns-in-None-clause-written c = ?
+returns-in-None-clause-written c =
+    let a = c.args in
+    rw (← table_none _ _ _ c.requires.accepted refl _ _ c.solve.ensures c.in-None.is, rows_length a.xs.now a.ys.now a.zs.now a.ks.now 0 a.count, ← c.requires.k_value, ← c.solve.auto.times)
+    c.none_text.ensures.written
