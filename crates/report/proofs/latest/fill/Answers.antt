@@ -1,5 +1,4 @@
-use Rattle.std.proofs.Common.{rules, ◌+◌}
-use lib.IntN.{nat_abs}
+use Rattle.std.proofs.Common.{rules}
 use mir.Facts.{to_z-of_z}
 use mir.Syntax.{w32}
 use mir.Val.{SFits}

@@ -1,4 +1,4 @@
-use Rattle.std.proofs.Common.{◌≡◌, length, refl, sym}
+use Rattle.std.proofs.Common.{refl}
 use Rattle.table.proofs.Rows.{rows_length}
 use Rattle.report.proofs.Reports.{table_plan, table_none, not_refused}
 use Rattle.report.proofs.latest.table_text.Goals as goal

@@ -1,4 +1,4 @@
-use Rattle.std.proofs.Common.{rules, arith, ◌≡◌, ◌+◌, ◌*◌, ◌≤◌, List, ℤ, ap}
+use Rattle.std.proofs.Common.{rules, arith, List, ℤ, ap}
 use lib.ListN.{drop_of_length-le}
 use mir.Facts.{to_z-of_z}
 use mir.Syntax.{w32}

@@ -8,7 +8,7 @@ invariant-loop-i l =
     record {
       low : l.i ≤ length l.times;
       near : l.p ≤ l.at + l.i * 80;
-      listed : Listed (job_lines 0 l.times) (job_lines l.i (drop l.i l.times)) l.initial.out l.at l.out l.p
+      listed : Listed (job_lines 0 l.times) (job_lines l.i (drop l.i l.times)) l.initial.out l.at l.out l.p;
     }
 
 abbrev pub decreases-loop-i : goal.decreases-loop-i

@@ -1,5 +1,4 @@
-use Rattle.std.proofs.Common.{arith, ◌≡◌, ◌∙◌, ◌+◌, ◌*◌, ◌≤◌, List, sym, ap}
-use Rattle.maxatom.specs.Rule.{tight}
+use Rattle.std.proofs.Common.{arith, ◌∙◌, List, sym, ap}
 use Rattle.maxatom.specs.declared.Rule.{Rule}
 use Rattle.maxatom.proofs.Choose.{cond_yes, cond_no}
 use Rattle.table.proofs.Rows.{rows_next, rows_end, rows_length}

@@ -9,7 +9,7 @@ invariant-loop-i l =
     record {
       low : l.i ≤ l.count;
       near : l.p ≤ l.at + l.i * 24;
-      listed : Listed (tight_fields 0 (rules_of l.xs l.ys l.zs l.ks l.count) l.times) (tight_fields l.i (rules_from l.xs l.ys l.zs l.ks l.i (l.count - l.i)) l.times) l.initial.out l.at l.out l.p
+      listed : Listed (tight_fields 0 (rules_of l.xs l.ys l.zs l.ks l.count) l.times) (tight_fields l.i (rules_from l.xs l.ys l.zs l.ks l.i (l.count - l.i)) l.times) l.initial.out l.at l.out l.p;
     }
 
 abbrev pub decreases-loop-i : goal.decreases-loop-i
