@@ -16,11 +16,11 @@ use Rattle.derivation.specs.declared.Refusal.{Refusal}
 use Rattle.derivation.specs.declared.Solved.{Solved}
 use Rattle.derivation.specs.declared.Solved.TheVariants as Solve
 use Rattle.derivation.proofs.Checks.{accepting, times_pass, each_left}
-use Rattle.table.specs.Columns.{rules_from, rules_of, Columns}
+use Rattle.table.specs.Columns.{rules_from, rules_of}
 use Rattle.bookfile.specs.Reading.{Entry, size_at, rule_at, entries}
 use Rattle.bookfile.specs.Replies.{file_reply, Listed, Begins}
 use Rattle.bookfile.specs.Theorems.{rules_of_file}
-use Rattle.bookfile.proofs.Tables.{read_accepted, few_rules}
+use Rattle.bookfile.proofs.Tables.{read_accepted}
 use Rattle.bookfile.proofs.Walks.{Walked, walked_none, walked_begins, walked_next, listed_counts}
 use Rattle.report.specs.Report.{book_line, none_line, steps_line, refused_line, plan_text, none_text}
 use Rattle.report.specs.Latest.{end_text, run_text, table_text, read_text, report_of}
@@ -94,9 +94,6 @@ module _ (file : List ℕ) {counts : Counts} (e : file_reply file ≡ answer cou
       pub filled_inside : at + size_at file at ≤ length file
       filled_inside = begins.inside
 
-      pub filled_few : i < 1024
-      filled_few = omega (arith, few_rules file e)
-
       -- the rules from the one at hand on
       here : rules_of_file file ≡ rules_of xs ys zs ks i ++ (rule_at file at ∷ rules_at (drop (i + 1) (entries file)))
       here = f.rest ∙ ap (λ (l : List Entry). rules_of xs ys zs ks i ++ rules_at l) begins.here
@@ -105,15 +102,6 @@ module _ (file : List ℕ) {counts : Counts} (e : file_reply file ≡ answer cou
       filled_small =
           (each_left (InBook counts.jobs) (rules_of xs ys zs ks i) (rule_at file at ∷ rules_at (drop (i + 1) (entries file)))
           (subst (Each (InBook counts.jobs)) here (read_accepted file counts e).0.rules_in)).1.0.offset
-
-      pub filled_room : Columns xs₀ ys₀ zs₀ ks₀ counts.rules → Columns xs ys zs ks (i + 1)
-      filled_room c =
-          record {
-            xlong = omega (arith, f.xlong, c.xlong);
-            ylong = omega (arith, f.ylong, c.ylong);
-            zlong = omega (arith, f.zlong, c.zlong);
-            klong = omega (arith, f.klong, c.klong);
-          }
 
       pub filled_next : (xs' ys' zs' : List ℕ) (ks' : List ℤ) → length xs' ≡ length xs → length ys' ≡ length ys → length zs' ≡ length zs → length ks' ≡ length ks →
           rules_of xs' ys' zs' ks' (i + 1) ≡ rules_of xs ys zs ks i ++ (rule_at file at ∷ []) →

@@ -5,12 +5,11 @@ use mathlib.Core.List.{List, [], ◌∷◌, ◌++◌, append_assoc, append-nil}
 use Prim.Native.Nat.{ℕ, zero, suc, ◌+◌, ◌/◌, ◌%◌, ◌^◌, ◌<◌, ◌≤◌}
 use native.Mathlib.Nat.{pow-suc}
 use native.Mathlib.Omega.{arith}
-use native.Mathlib.Numerals.{add-one}
 use lib.Dec.{ltb}
-use lib.ListN.{length, set, get_or, take, length-append}
+use lib.ListN.{length, set, take, length-append}
 use lib.IntN.{ℤ, pos, negsuc, nat_abs}
 use lib.Signed.{lt_z}
-use lib.Seq.{sets, length-sets, set_out, take_all, take-suc}
+use lib.Seq.{sets, length-sets, take_all}
 use borrow.Author.Tests.{lt-ltb, le-ltb, ltb-true, ltb-false}
 use Rattle.maxatom.proofs.Choose.{cond_yes, cond_no, clash}
 use Rattle.report.specs.Text.{Written, digits, decimal, field, signed_field}
@@ -18,9 +17,6 @@ use Rattle.report.specs.Text.{Written, digits, decimal, field, signed_field}
 sets_append : (l : List ℕ) (i : ℕ) (xs ys : List ℕ) → sets l i (xs ++ ys) ≡ sets (sets l i xs) (i + length xs) ys
 sets_append l i [] ys = ap (λ (k : ℕ). sets l k ys) (omega arith)
 sets_append l i (x ∷ xs) ys = sets_append (set l i x) (suc i) xs ys ∙ ap (λ (k : ℕ). sets (sets (set l i x) (suc i) xs) k ys) (omega arith)
-
-pub written_none : (l : List ℕ) (at : ℕ) → Written l at [] l at
-written_none l at = record { is = refl; to = omega arith }
 
 -- one piece after another
 pub written_then : {l : List ℕ} {at : ℕ} {xs : List ℕ} {m : List ℕ} {p : ℕ} {ys : List ℕ} {n : List ℕ} {q : ℕ} → Written l at xs m p → Written m p ys n q → Written l at (xs ++ ys) n q
@@ -32,9 +28,6 @@ written_then {l = l} {at = at} {xs = xs} {p = p} {ys = ys} a b =
 
 pub written_length : {l : List ℕ} {at : ℕ} {xs m : List ℕ} {p : ℕ} → Written l at xs m p → length m ≡ length l
 written_length {l = l} {at = at} {xs = xs} a = ap length a.is ∙ length-sets l at xs
-
-pub written_past : (l : List ℕ) (at b : ℕ) → length l ≤ at → Written l at (b ∷ []) l (at + 1)
-written_past l at b h = record { is = sym (set_out l at b h); to = omega arith }
 
 -- any fuel above the number serves
 fuel_enough : (k l n : ℕ) → n < k → n < l → digits k n ≡ digits l n
@@ -95,18 +88,7 @@ pub record Copied (word before : List ℕ) (at : ℕ) (after : List ℕ) (p i : 
   pub next : p ≡ at + i
   pub written : Written before at (take i word) after p
 
-pub copied_none : (word before : List ℕ) (at : ℕ) → Copied word before at before at 0
-copied_none word before at = record { low = omega arith; next = omega arith; written = written_none before at }
-
 module _ {word before : List ℕ} {at : ℕ} {after : List ℕ} {p i : ℕ} (c : Copied word before at after p i) where
-  pub copied_next : {m : List ℕ} {q : ℕ} → i < length word → Written after p (get_or word i 0 ∷ []) m q → Copied word before at m q (i + 1)
-  copied_next {m = m} {q = q} h w =
-      record {
-        low = omega arith;
-        next = let n = c.next in omega (arith, w.to);
-        written = rw (add-one, take-suc word i 0 h) (written_then c.written w);
-      }
-
   pub copied_all : length word ≤ i → Written before at word after p
   copied_all h = rw (take_all i word h) at c.written
 
@@ -115,9 +97,6 @@ pub record Listed (whole rest before : List ℕ) (at : ℕ) (after : List ℕ) (
   pub bytes : List ℕ
   pub written : Written before at bytes after p
   pub joined : bytes ++ rest ≡ whole
-
-pub listed_none : (whole before : List ℕ) (at : ℕ) → Listed whole whole before at before at
-listed_none whole before at = record { bytes = []; written = written_none before at; joined = refl }
 
 module _ {whole before : List ℕ} {at : ℕ} {m : List ℕ} {p : ℕ} where
   pub listed_next : {xs rest rest' : List ℕ} {n : List ℕ} {q : ℕ} → rest ≡ xs ++ rest' → Listed whole rest before at m p → Written m p xs n q → Listed whole rest' before at n q

@@ -18,9 +18,9 @@ use Rattle.table.proofs.Rows.{rows_at, rows_end, rows_length}
 use Rattle.solver.specs.Rules.{Named}
 use Rattle.solver.proofs.Laws.{named}
 use Rattle.run.specs.Blocks.{Marked, Reads, Settled}
-use Rattle.run.specs.Passing.{Running, Parted, run_of}
+use Rattle.run.specs.Passing.{Parted, run_of}
 use Rattle.run.specs.declared.passing.PassOut.{PassOut}
-use Rattle.run.proofs.Runs.{size_of_lem, Going, going_none, going_kept, going_low, going_fell, going_all}
+use Rattle.run.proofs.Runs.{size_of_lem, Going, going_kept, going_low, going_fell, going_all}
 use Rattle.run.proofs.Settling.{settled_kept, settled_low, settled_all, settled_block, settled_kept_block}
 
 -- the rules of a part before i are passed
@@ -28,10 +28,6 @@ pub record Parting (xs ys zs : List ℕ) (ks : List ℤ) (count from to : ℕ) (
   pub low : i ≤ to
   pub going : Going xs ys zs ks count from b₀ s₀ b s i
   pub settled : noted ≡ true → Settled (rules_of xs ys zs ks count) b₀ m₀ from to → Settled (rules_of xs ys zs ks count) b m i to
-
-pub parting_none : (xs ys zs : List ℕ) (ks : List ℤ) (count from to : ℕ) (noted : Bool) (b : List ℤ) (s m : ℕ) → from ≤ to → to ≤ count → Running (length b) (rules_of xs ys zs ks count) b s →
-    Parting xs ys zs ks count from to noted b s m b s m from
-parting_none xs ys zs ks count from to noted b s m h k p = record { low = h; going = going_none xs ys zs ks count from b s (omega arith) p; settled = λ r q. q }
 
 module _ {xs ys zs : List ℕ} {ks : List ℤ} {count from to : ℕ} {noted : Bool} {b₀ : List ℤ} {s₀ m₀ : ℕ} {b : List ℤ} {s m i : ℕ}
     (g : Parting xs ys zs ks count from to noted b₀ s₀ m₀ b s m i) (inside : to ≤ count) where
@@ -81,21 +77,9 @@ module _ {xs ys zs : List ℕ} {ks : List ℤ} {count from to : ℕ} {noted : Bo
             ended = λ f. rw (e, q) (going_fell g.going (omega arith) violated left low);
           }
 
-  pub parting_all : to ≤ i → (out : PassOut) → out.steps ≡ s → out.fell ≡ false → Parted xs ys zs ks count from to b₀ s₀ b out
-  parting_all h out e t =
-      let same : i ≡ to = omega (arith, g.low) in
-      record {
-        running = λ f. rw e g.going.running;
-        rest = λ f. rw (e, sym same) g.going.rest;
-        ended = λ f. absurd (true≢false (sym f ∙ t));
-      }
-
   -- the job that rule i lowers has a word
   pub parting_word : i < to → {words : List ℕ} → Reads rules words → rule.z < length words
   parting_word h r = rw (at h) at (r.lowered i (omega (arith, rows_length xs ys zs ks 0 count)))
-
-  pub parting_settled : to ≤ i → noted ≡ true → Settled rules b₀ m₀ from to → Settled rules b m to to
-  parting_settled h r q = subst (λ (n : ℕ). Settled rules b m n to) (omega (arith, g.low)) (g.settled r q)
 
 -- a pass's outcome, by whether it fell
 run_fell : (out : PassOut) (b : List ℤ) → out.fell ≡ true → run_of out b ≡ record { times = b; steps = out.steps; end = fell out.job }
@@ -133,11 +117,6 @@ pub record Blocking (xs ys zs : List ℕ) (ks : List ℤ) (count : ℕ) (b₀ : 
   pub few : block * 16 ≤ count + 15
   pub going : Going xs ys zs ks count 0 b₀ s₀ b s (min (block * 16) count)
   pub settled : Settled (rules_of xs ys zs ks count) b m 0 0
-
-pub blocking_none : (xs ys zs : List ℕ) (ks : List ℤ) (count : ℕ) (b : List ℤ) (s m : ℕ) → Running (length b) (rules_of xs ys zs ks count) b s → Settled (rules_of xs ys zs ks count) b m 0 0 →
-    Blocking xs ys zs ks count b s b s m 0
-blocking_none xs ys zs ks count b s m p q =
-    record { few = omega arith; going = subst (λ (k : ℕ). Going xs ys zs ks count 0 b s b s k) (omega arith) (going_none xs ys zs ks count 0 b s (omega arith) p); settled = q }
 
 module _ {xs ys zs : List ℕ} {ks : List ℤ} {count : ℕ} {b₀ : List ℤ} {s₀ : ℕ} {b : List ℤ} {s m block : ℕ} (g : Blocking xs ys zs ks count b₀ s₀ b s m block) where
   abbrev all : List Rule
@@ -181,9 +160,6 @@ module _ {xs ys zs : List ℕ} {ks : List ℤ} {count : ℕ} {b₀ : List ℤ} {
             };
             settled = settled_all q;
           }
-
-      pub blocking_fell : out.fell ≡ true → run_of out b' ≡ pass (floor all) all b₀ s₀
-      blocking_fell f = run_fell out b' f ∙ (sym (p.ended f) ∙ (sym joined ∙ ap (λ (k : ℕ). pass (floor all) (rules_from xs ys zs ks 0 k) b₀ s₀) (omega arith)))
 
   pub blocking_all : count ≤ block * 16 → (out : PassOut) → out.steps ≡ s → out.fell ≡ false → run_of out b ≡ pass (floor all) all b₀ s₀
   blocking_all h out e f = run_on out b e f ∙ (sym (going_all g.going (omega arith)) ∙ ap (λ (k : ℕ). pass (floor all) (rules_from xs ys zs ks 0 k) b₀ s₀) (omega arith))

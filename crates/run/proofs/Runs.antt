@@ -84,9 +84,6 @@ pub record Going (xs ys zs : List ℕ) (ks : List ℤ) (count from : ℕ) (b₀ 
   pub running : Running (length b₀) (rules_of xs ys zs ks count) b s
   pub rest : pass (floor (rules_of xs ys zs ks count)) (rules_from xs ys zs ks from (count - from)) b₀ s₀ ≡ pass (floor (rules_of xs ys zs ks count)) (rules_from xs ys zs ks i (count - i)) b s
 
-pub going_none : (xs ys zs : List ℕ) (ks : List ℤ) (count from : ℕ) (b : List ℤ) (s : ℕ) → from ≤ count → Running (length b) (rules_of xs ys zs ks count) b s → Going xs ys zs ks count from b s b s from
-going_none xs ys zs ks count from b s h p = record { low = h; running = p; rest = refl }
-
 module _ {xs ys zs : List ℕ} {ks : List ℤ} {count from : ℕ} {b₀ : List ℤ} {s₀ : ℕ} {b : List ℤ} {s i : ℕ} (g : Going xs ys zs ks count from b₀ s₀ b s i) where
   abbrev rules : List Rule
   rules = rules_of xs ys zs ks count

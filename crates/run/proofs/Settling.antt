@@ -1,6 +1,6 @@
 -- Which rules may be violated: marks of blocks through steps and passes. Assumes nothing.
 use mathlib.Core.Path.{◌≡◌, refl, sym, ap, subst, ◌∙◌}
-use mathlib.Core.Bool.{Bool, true, false, true≢false}
+use mathlib.Core.Bool.{true, false, true≢false}
 use mathlib.Core.List.{List}
 use Prim.Native.Nat.{ℕ, zero, suc, ◌+◌, ◌-◌, ◌*◌, ◌<◌, ◌≤◌, ◌/◌, ◌%◌, ◌^◌, max, min}
 use native.Mathlib.Nat.{div_self, div-eq_of_lt}
@@ -12,13 +12,13 @@ use lib.ListN.{length, get_or, set, length-set}
 use lib.Seq.{get_or-set_same, get_or-set_other}
 use borrow.Author.Count.{below_more}
 use lib.IntN.{ℤ, pos}
-use lib.Signed.{◌≤ℤ◌, ◌<ℤ◌, le_z, lt_z}
-use Rattle.maxatom.specs.Rule.{time_at, max_z, left_side, satisfied}
+use lib.Signed.{◌≤ℤ◌}
+use Rattle.maxatom.specs.Rule.{time_at, left_side, satisfied}
 use Rattle.maxatom.specs.declared.Rule.{Rule}
 use Rattle.maxatom.proofs.Integers.{lt_read, le_make, le_true, le_false, true_le, by_test, by_test_not, ≤ℤ-trans}
 use Rattle.maxatom.proofs.Lists.{set_time}
 use Rattle.derivation.specs.Step.{rule_at}
-use Rattle.run.specs.Blocks.{Marked, Marking, Reads, Settled, Tracked}
+use Rattle.run.specs.Blocks.{Marked, Marking, Reads, Settled}
 
 -- bits of a word
 either_bit : (a b k : ℕ) → bit_or a b / 2 ^ k % 2 ≡ max (a / 2 ^ k % 2) (b / 2 ^ k % 2)
@@ -85,9 +85,6 @@ pub record Indexing (rules : List Rule) (size : ℕ) (words : List ℕ) (i : ℕ
   pub sized : length words ≡ size
   pub first : (j : ℕ) → j < i → Marked (get_or words (rule_at rules j).x 0) (j / 16)
   pub second : (j : ℕ) → j < i → Marked (get_or words (rule_at rules j).y 0) (j / 16)
-
-pub indexing_none : (rules : List Rule) (words : List ℕ) → Indexing rules (length words) words 0
-indexing_none rules words = record { sized = refl; first = λ j h. absurd (omega arith); second = λ j h. absurd (omega arith) }
 
 pub indexing_next : {rules : List Rule} {size : ℕ} {words words' words'' : List ℕ} {i : ℕ} → Indexing rules size words i → Marking words (rule_at rules i).x (i / 16) words' → Marking words' (rule_at rules i).y (i / 16) words'' →
     Indexing rules size words'' (i + 1)

@@ -1,26 +1,23 @@
 -- The run's loop: a pass, and what the watch took at once after it. Assumes nothing.
-use mathlib.Core.Path.{◌≡◌, refl, sym, ap, subst, ◌∙◌}
+use mathlib.Core.Path.{◌≡◌, refl, sym, subst}
 use mathlib.Core.Bool.{Bool, true, false}
 use mathlib.Core.List.{List}
-use Prim.Native.Nat.{ℕ, ◌+◌, ◌-◌, ◌<◌, ◌≤◌, ◌^◌}
+use Prim.Native.Nat.{ℕ, ◌+◌, ◌-◌, ◌<◌, ◌≤◌}
 use native.Mathlib.Omega.{arith}
 use lib.ListN.{length}
 use lib.IntN.{ℤ}
-use Rattle.maxatom.specs.Book.{Accepted, InBook, floor}
+use Rattle.maxatom.specs.Book.{floor}
 use Rattle.maxatom.specs.declared.Rule.{Rule}
 use Rattle.maxatom.specs.Clauses.{clauses_of}
 use Rattle.maxatom.specs.Jumps.{Walk, Passing, start, round}
-use Rattle.derivation.specs.Step.{rule_at}
 use Rattle.derivation.specs.Run.{pass, pass_bound, fallen, unfinished}
-use Rattle.derivation.proofs.AnyOrder.{each_at}
 use Rattle.derivation.proofs.Walks.{walk_pass}
-use Rattle.solver.specs.Rules.{Named, NamedAll}
 use Rattle.jump.specs.Leaps.{Passed, Sized}
 use Rattle.jump.proofs.Jumping.{passed_still}
 use Rattle.run.specs.Passing.{run_of, Looping}
 use Rattle.run.specs.Blocks.{Settled}
 use Rattle.run.specs.declared.passing.PassOut.{PassOut}
-use Rattle.run.proofs.Runs.{few_fit, looping_next, solved_next, solved_less}
+use Rattle.run.proofs.Runs.{looping_next, solved_next, solved_less}
 
 module _ {jobs : ℕ} {rules : List Rule} where
   looping_walk : {b b' : List ℤ} {s k : ℕ} → Looping jobs rules b s → Walk (floor rules) (clauses_of rules) b b' k → 1 ≤ k → Looping jobs rules b' (s + k)
@@ -32,13 +29,6 @@ module _ {jobs : ℕ} {rules : List Rule} where
   looping_jump {b = b} {s = s} l start = subst (λ (n : ℕ). Looping jobs rules b n) (omega arith) l
   looping_jump {b' = b'} {s = s} l (round {s = i} {k = k} p w some) =
       subst (λ (n : ℕ). Looping jobs rules b' n) (omega arith) (looping_walk (looping_jump l p) w some)
-
--- the rules' jobs have places among as many as the jobs or more
-pub named_all : {jobs : ℕ} {rules : List Rule} → Accepted jobs rules → (size : ℕ) → jobs ≤ size → NamedAll rules size size
-named_all {jobs = jobs} {rules = rules} a size h =
-    let by : (i : ℕ) → i < length rules → Named (rule_at rules i) size =
-    λ i l. let b = each_at (InBook jobs) rules i l a.rules_in in record { first = omega (arith, b.first); second = omega (arith, b.second); third = omega (arith, b.third) } in
-    record { in_near = by; in_far = by }
 
 -- the run's loop, with the room that watching takes
 pub record Watching (jobs : ℕ) (rules : List Rule) (room : ℕ) (marks : List ℕ) (was : List ℤ) (drops : List ℕ) (near far times : List ℤ) (s : ℕ) (sparse : Bool) (marked : ℕ) : Type 0 where
@@ -53,9 +43,6 @@ module _ {jobs : ℕ} {rules : List Rule} {b t t' : List ℤ} {s k : ℕ} (l : L
     (e : p.fell ≡ false) (q : p.steps ≡ s → ⊥) (w : Passed rules (floor rules) t t' k) where
   pub watched : Looping jobs rules t' (p.steps + k)
   watched = looping_jump (solved_next l p t said e q) w.passing
-
-  pub watched_fits : p.steps + k < 2 ^ 63
-  watched_fits = few_fit watched.running
 
   pub watched_less : pass_bound jobs rules - (p.steps + k) < pass_bound jobs rules - s
   watched_less = let m = solved_less l p t said e q in omega arith

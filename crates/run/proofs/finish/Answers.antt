@@ -1,9 +1,9 @@
-use Rattle.std.proofs.Common.{arith, ◌≡◌, ◌+◌, ◌<◌, ◌≤◌, ◌∙◌, List, ℕ, ℤ, length}
+use Rattle.std.proofs.Common.{arith, ◌∙◌}
 use mir.Facts.{to_z-of_z}
 use Rattle.table.proofs.Rows.{rows_length}
 use Rattle.run.specs.Passing.{run_of}
-use Rattle.run.proofs.Runs.{size_of_lem, few_fit, looping_more, solved_fell, solved_still}
-use Rattle.run.proofs.Watching.{named_all, watched, watched_less, still_settled}
+use Rattle.run.proofs.Runs.{few_fit, looping_more, solved_fell, solved_still}
+use Rattle.run.proofs.Watching.{watched, watched_less, still_settled}
 use Rattle.run.proofs.finish.Goals as goal
 
 pub returns-then-fell : goal.returns-then-fell

@@ -1,5 +1,4 @@
-use Rattle.std.proofs.Common.{◌<◌, length, arith}
-use Rattle.table.specs.Columns.{rule_of}
+use Rattle.std.proofs.Common.{arith}
 use Rattle.table.proofs.Rows.{rows_at, rows_length}
 use Rattle.jump.proofs.Jumping.{named_at}
 use Rattle.run.proofs.Settling.{indexing_next, indexed}

@@ -1,8 +1,8 @@
-use Rattle.std.proofs.Common.{rules, ◌≡◌, ◌∙◌}
-use lib.IntN.{ℤ, ◌+ℤ◌}
+use Rattle.std.proofs.Common.{rules}
+use lib.IntN.{◌+ℤ◌}
 use mir.Facts.{to_z-of_z}
 use mir.Syntax.{w32}
-use mir.Val.{SFits, to_z, of_z}
+use mir.Val.{SFits}
 use Rattle.maxatom.specs.Rule.{time_at, max_z, left_side, satisfied}
 use Rattle.run.proofs.passing.is_satisfied_32.Goals as goal
 

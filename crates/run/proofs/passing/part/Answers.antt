@@ -1,15 +1,12 @@
-use Rattle.std.proofs.Common.{rules, arith, ◌≡◌, ◌<◌, ◌≤◌, ◌∙◌, Bool, true, false, List, length, get_or, set, refl, sym, ap, ℤ, pos}
+use Rattle.std.proofs.Common.{arith, ◌≡◌, ◌<◌, Bool, List, length, get_or, set, refl, sym, ap, ℤ, pos}
 use lib.ListN.{length-set}
 use lib.Seq.{get_or-set_same}
 use lib.Signed.{lt_z}
-use mathlib.Core.Bool.{true≢false}
 use mir.Facts.{to_z-of_z}
 use mir.Syntax.{w32}
 use mir.Val.{SFits, to_z, of_z}
-use Rattle.maxatom.specs.Book.{floor}
 use Rattle.maxatom.specs.Rule.{time_at, left_side, satisfied}
 use Rattle.maxatom.specs.declared.Rule.{Rule}
-use Rattle.table.specs.Columns.{rule_of, rules_of}
 use Rattle.run.proofs.Runs.{few_fit, fits_here, lowerable_here}
 use Rattle.run.proofs.Parts.{parting_named, parting_kept, parting_low, parting_unnoted, parting_word, parting_fell}
 use Rattle.run.proofs.passing.part.Goals as goal
