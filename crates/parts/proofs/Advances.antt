@@ -26,26 +26,9 @@ use Rattle.parts.proofs.Leftovers.{in_range_lem}
 pub record Resting (drops : List ℕ) (i : ℕ) : Type 0 where
   pub each : (job : ℕ) → job < i → get_or drops job 0 ≡ 0
 
-pub resting_none : (drops : List ℕ) → Resting drops 0
-resting_none drops = record { each = λ job h. absurd (omega arith) }
-
-module _ {drops : List ℕ} {i : ℕ} (g : Resting drops i) where
-  pub resting_next : get_or drops i 0 ≤ 0 → Resting drops (i + 1)
-  resting_next h = record { each = below_more _ i g.each (omega arith) }
-
-  pub resting_all : length drops ≤ i → (job : ℕ) → get_or drops job 0 ≡ 0
-  resting_all h job = go (dec_lt job i)
-    where
-      go : Dec (job < i) → get_or drops job 0 ≡ 0
-      go (yes l) = g.each job l
-      go (no l) = get_or-eq_default drops 0 {n = job} (omega arith)
-
 -- none of the first i jobs has fallen more than its drop
 pub record Fallen (from to : List ℤ) (drops : List ℕ) (i : ℕ) : Type 0 where
   pub each : (job : ℕ) → job < i → time_at from job ≤ℤ (time_at to job +ℤ pos (get_or drops job 0))
-
-pub fallen_none : (from to : List ℤ) (drops : List ℕ) → Fallen from to drops 0
-fallen_none from to drops = record { each = λ job h. absurd (omega arith) }
 
 pub fallen_next : {from to : List ℤ} {drops : List ℕ} {i : ℕ} → Fallen from to drops i → time_at from i ≤ℤ (time_at to i +ℤ pos (get_or drops i 0)) → Fallen from to drops (i + 1)
 fallen_next {i = i} g h = record { each = below_more _ i g.each h }
@@ -60,10 +43,6 @@ pub record Fit (part period : ℕ) (labels periods falls : List ℕ) (times ahea
 pub record Choosing (part period : ℕ) (labels periods falls : List ℕ) (times ahead : List ℤ) (drops₀ drops : List ℕ) (i : ℕ) : Type 0 where
   pub size : length drops ≡ length drops₀
   pub each : (job : ℕ) → job < i → Fit part period labels periods falls times ahead job (get_or drops job 0)
-
-module _ (part period : ℕ) (labels periods falls : List ℕ) (times ahead : List ℤ) (drops : List ℕ) where
-  pub choosing_none : Choosing part period labels periods falls times ahead drops drops 0
-  choosing_none = record { size = refl; each = λ job h. absurd (omega arith) }
 
 module _ {part period : ℕ} {labels periods falls : List ℕ} {times ahead : List ℤ} {drops₀ drops : List ℕ} {i : ℕ}
     (g : Choosing part period labels periods falls times ahead drops₀ drops i) where

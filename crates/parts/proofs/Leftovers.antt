@@ -1,13 +1,12 @@
 -- What is left of rules for their parts: its arms, its labels and its jobs, one part more, and a part's rules in columns. Assumes nothing.
-use mathlib.Core.Path.{◌≡◌, refl, sym, ap, subst, ◌∙◌}
+use mathlib.Core.Path.{◌≡◌, refl, ap, subst, ◌∙◌}
 use mathlib.Core.Bool.{Bool, true, false, cond}
-use mathlib.Core.List.{List, [], ◌∷◌, ◌++◌, append-nil, append_assoc}
-use Prim.Native.Nat.{ℕ, zero, suc, ◌+◌, ◌-◌, ◌<◌, ◌≤◌}
+use mathlib.Core.List.{List, [], ◌∷◌, ◌++◌}
+use Prim.Native.Nat.{ℕ, zero, suc, ◌+◌, ◌<◌, ◌≤◌}
 use native.Mathlib.Decide.{dec_lt}
 use native.Mathlib.Omega.{arith}
-use lib.ListN.{length, get_or, set}
-use lib.Seq.{get_or-set_same, get_or-set_other}
-use lib.IntN.{ℤ, pos}
+use lib.ListN.{length, get_or}
+use lib.IntN.{ℤ}
 use lib.Signed.{◌≤ℤ◌, le_z}
 use borrow.Author.Tests.{lt-ltb, le-ltb, eq-eqb, ne_eqb, eqb-true}
 use Rattle.maxatom.specs.Rule.{time_at}
@@ -16,10 +15,6 @@ use Rattle.maxatom.specs.declared.Rule.{Rule}
 use Rattle.maxatom.specs.Clauses.{In, here, there, Arm, clause_of, clauses_of}
 use Rattle.maxatom.proofs.Integers.{le_true}
 use Rattle.maxatom.proofs.Parts.{Within, Merged, nothing, left, right}
-use Rattle.derivation.specs.Step.{rule_at}
-use Rattle.derivation.proofs.AnyOrder.{each_at}
-use Rattle.table.specs.Columns.{rule_of, rules_from, rules_of, Columns}
-use Rattle.table.proofs.Rows.{rows_next, rows_end}
 use Rattle.solver.specs.Rules.{Named, NamedAll}
 use Rattle.jump.specs.Leaps.{with_one_arm}
 use Rattle.jump.proofs.Taking.{at_each, named_each}

@@ -2,4 +2,3 @@ pub mod Leftovers
 pub mod Allowing
 pub mod Advances
 pub mod Sides
-pub mod Rooms

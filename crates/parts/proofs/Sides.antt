@@ -1,5 +1,5 @@
 -- Parts side by side: passes over the parts before one, and as many over that one, are passes over both. Assumes nothing.
-use mathlib.Core.Path.{◌≡◌, refl, sym, subst, ◌∙◌}
+use mathlib.Core.Path.{◌≡◌, refl, sym, subst}
 use mathlib.Core.Logic.{◌⊎◌, inl, inr}
 use mathlib.Core.Bool.{Bool, true, false, ◌||◌}
 use mathlib.Core.List.{List, []}
@@ -7,15 +7,14 @@ use Prim.Native.Nat.{ℕ, ◌+◌, ◌<◌, ◌≤◌, ◌^◌}
 use native.Mathlib.Decide.{dec_lt}
 use native.Mathlib.Omega.{arith}
 use lib.ListN.{length, get_or}
-use lib.IntN.{ℤ, pos}
+use lib.IntN.{ℤ}
 use Rattle.maxatom.specs.Rule.{time_at}
 use Rattle.maxatom.specs.declared.Rule.{Rule}
 use Rattle.maxatom.specs.Clauses.{Clause, clauses_of}
 use Rattle.maxatom.specs.Jumps.{Walk, done, Traced, start, round, Along}
 use Rattle.maxatom.proofs.Choose.{clash}
 use Rattle.maxatom.proofs.Parts.{narrow, merged, weaken, settled}
-use Rattle.table.specs.Columns.{rules_of, Columns}
-use Rattle.jump.specs.Leaps.{Sized, Passed}
+use Rattle.jump.specs.Leaps.{Passed}
 use Rattle.parts.specs.Parts.{label_at, pick, Line, Advanced, Chosen, Ahead, Allowed}
 use Rattle.parts.proofs.Leftovers.{merge, picked_none}
 

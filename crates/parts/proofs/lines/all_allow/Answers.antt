@@ -1,5 +1,4 @@
-use Rattle.std.proofs.Common.{refl}
-use Rattle.parts.proofs.Allowing.{said_none, said_next, said_all, all_allowed}
+use Rattle.parts.proofs.Allowing.{said_next, said_all, all_allowed}
 use Rattle.jump.proofs.Jumping.{named_at}
 use Rattle.parts.proofs.lines.all_allow.Goals as goal
 

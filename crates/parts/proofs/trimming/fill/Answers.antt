@@ -1,9 +1,9 @@
-use Rattle.std.proofs.Common.{◌≡◌, ℕ, ◌+◌, ◌<◌, List, ◌∷◌, ◌++◌, length, get_or, sym, ap, ◌∙◌, rules, arith}
+use Rattle.std.proofs.Common.{◌≡◌, ℕ, ◌+◌, ◌<◌, List, ◌∷◌, ◌++◌, length, get_or, sym, ap, ◌∙◌, rules}
 use lib.IntN.{ℤ}
 use Rattle.maxatom.specs.declared.Rule.{Rule}
 use Rattle.jump.proofs.Jumping.{named_at}
 use Rattle.jump.proofs.Taking.{filling_none, filling_skip, filling_put, filling_all}
-use Rattle.parts.specs.Parts.{label_at, arms_left, leftover, pick}
+use Rattle.parts.specs.Parts.{arms_left, leftover, pick}
 use Rattle.parts.specs.declared.trimming.Arms.{Arms}
 use Rattle.parts.proofs.Leftovers.{part_skip, part_take, part_none, one_neither, one_both, one_first, one_second, in_range_lem}
 use Rattle.parts.proofs.trimming.fill.Goals as goal
