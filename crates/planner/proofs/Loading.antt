@@ -9,7 +9,6 @@ use lib.Seq.{take-suc}
 use lib.IntN.{ℤ}
 use Rattle.walk.specs.Chain.{folded}
 use Rattle.walk.proofs.Chains.{folded_none, folded_more}
-use Rattle.maxatom.specs.Book.{total}
 use Rattle.maxatom.specs.declared.Rule.{Rule}
 use Rattle.derivation.specs.Refusals.{refused, answer, verdict, size_check, times_checks}
 use Rattle.derivation.specs.Run.{solve}

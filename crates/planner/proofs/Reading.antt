@@ -9,13 +9,12 @@ use lib.Seq.{get_or-drop}
 use lib.ListN.{length, drop, get_or, get_or-map}
 use Rattle.walk.specs.Chain.{made}
 use Rattle.maxatom.specs.declared.Rule.{Rule}
-use Rattle.derivation.specs.Refusals.{Reply, refused, answer, accepts, check, reply}
+use Rattle.derivation.specs.Refusals.{Reply, refused, answer, accepts, check}
 use Rattle.derivation.proofs.Checks.{passed, accepting}
 use Rattle.derivation.specs.Step.{no_rule, rule_at}
 use Rattle.derivation.specs.Replies.{read_of}
 use Rattle.derivation.specs.declared.Counts.{Counts}
 use Rattle.derivation.specs.declared.Read.{Read}
-use Rattle.derivation.specs.declared.Read.TheVariants as Read
 use Rattle.bookfile.specs.Reading.{size_at, Entry, entries}
 use Rattle.bookfile.specs.Reading as reading
 use Rattle.bookfile.specs.Theorems.{rules_of_file}

@@ -1,6 +1,4 @@
 use Rattle.std.proofs.Common.{◌<◌, ◌≡◌, length, min, arith, subst, ℕ}
-use Rattle.entries.specs.Scans.{no_scan}
-use Rattle.entries.specs.declared.scan.Scan.{Scan}
 use Rattle.entries.proofs.Scanning.{room}
 use Rattle.planner.proofs.Loading.{Filled, filled_none, filled_next, placed, loaded_all}
 use Rattle.planner.proofs.load.Goals as goal

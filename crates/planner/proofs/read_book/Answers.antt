@@ -1,9 +1,8 @@
 use Rattle.std.proofs.Common.{ℕ, ◌<◌, ◌∙◌, ◌≡◌, length, arith, ap, refl}
 use Rattle.walk.specs.Chain.{made}
 use Rattle.walk.proofs.Chains.{made_none, made_put}
-use Rattle.maxatom.specs.declared.Rule.{Rule}
 use Rattle.bookfile.specs.Replies.{count_of, Listed}
-use Rattle.bookfile.proofs.Walks.{Walked, walked_none}
+use Rattle.bookfile.proofs.Walks.{walked_none}
 use Rattle.planner.proofs.Reading.{rule_in, count_fits, turn_inside, turn_rule, turn_next, stored_all}
 use Rattle.planner.proofs.read_book.Goals as goal
 
@@ -44,8 +43,9 @@ loop-i-preserved c =
 
 pub returns : goal.returns
 returns c =
-    let last : c.loop-i.i ≡ count_of c.read_within-said.result = omega arith in
-    (c.read_within-said.ensures,
+    let last : c.loop-i.i ≡ count_of c.read_within-said.result = omega arith in (
+      c.read_within-said.ensures,
       c.loop-i.invariant.rules
-      ∙ (ap (λ (i : ℕ). made (rule_in c.args.file.now) i c.args.rules.now) last
-          ∙ stored_all c.args.file.now (length c.args.rules.now) c.read_within-said.result c.read_within-said.ensures c.args.rules.now refl))
+          ∙ (ap (λ (i : ℕ). made (rule_in c.args.file.now) i c.args.rules.now) last
+          ∙ stored_all c.args.file.now (length c.args.rules.now) c.read_within-said.result c.read_within-said.ensures c.args.rules.now refl),
+    )

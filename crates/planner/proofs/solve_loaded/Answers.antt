@@ -18,7 +18,7 @@ unfolding outcome_reply
 returns-in-Refused c = λ rules e l.
     solved_refused c.args.n rules c.args.s c.args.xs.now c.args.ys.now c.args.zs.now c.args.ks.now l c.args.times.now c.in-Refused.r
     (subst (λ (m : ℕ). verdict (scan_checks c.args.n m c.args.s ++ (size_check c.args.n c.args.times.now ∷ [])) ≡ refused c.in-Refused.r.number c.in-Refused.r.place) e
-        (sym c.in-Refused.ensures))
+    (sym c.in-Refused.ensures))
 
 pub returns-in-Done : goal.returns-in-Done
 unfolding outcome_reply
