@@ -43,13 +43,13 @@ module _ {jobs : ℕ} {rules : List Rule} {times : List ℤ} {steps : ℕ} (p : 
   reached = (played p.accepted (initial jobs) start p.calls).reached
 
   pub high : below_floor (floor rules) (finally jobs rules p.calls).times ≡ false
-  high = rw p.same_times_lem p.above
+  high = rw p.same_times p.above
 
   pub size_of_lem : length times ≡ jobs
-  size_of_lem = ap length (sym p.same_times_lem) ∙ size_is p.accepted reached
+  size_of_lem = ap length (sym p.same_times) ∙ size_is p.accepted reached
 
   pub early : (job : ℕ) → time_at times job ≤ℤ pos 0
-  early job = rw p.same_times_lem at (not_after p.accepted reached job)
+  early job = rw p.same_times at (not_after p.accepted reached job)
 
   pub few : steps ≤ jobs * total rules
   few =
@@ -66,14 +66,14 @@ module _ {jobs : ℕ} {rules : List Rule} {times : List ℤ} {steps : ℕ} (p : 
   running_step i h violated up =
       let r = rule_at rules i in
       let s = finally jobs rules p.calls in
-      let same = p.same_times_lem in
+      let same = p.same_times in
       let violated' : satisfied r s.times ≡ false = rw same violated in
       let after : finally jobs rules (p.calls ++ (i ∷ [])) ≡ step_on r s = run_append jobs rules (initial jobs) p.calls (i ∷ []) ∙ after_step p.accepted (view p.accepted s i reached) h high violated' in
       let times' : (step_on r s).times ≡ set times r.z (left_side r times) = rw same in
       record {
         accepted = p.accepted;
         calls = p.calls ++ (i ∷ []);
-        same_times_lem = ap (λ (x : State). x.times) after ∙ times';
+        same_times = ap (λ (x : State). x.times) after ∙ times';
         same_steps = ap (λ (x : State). x.tally.steps) after ∙ ap (λ (n : ℕ). n + 1) p.same_steps;
         above = rw times' at (stays_above p.accepted reached i h high violated' (rw same up));
       }
@@ -134,7 +134,7 @@ pub looping_none : {jobs : ℕ} {rules : List Rule} → Accepted jobs rules → 
 unfolding solve play end_state
 looping_none {jobs = jobs} {rules = rules} a =
     record {
-      running = record { accepted = a; calls = []; same_times_lem = refl; same_steps = refl; above = high_test (floor rules) _ (λ job. rw (zero_time jobs job) (floor_low a)) };
+      running = record { accepted = a; calls = []; same_times = refl; same_steps = refl; above = high_test (floor rules) _ (λ job. rw (zero_time jobs job) (floor_low a)) };
       fuel = pass_bound jobs rules;
       enough = omega arith;
       is = refl;
@@ -146,7 +146,7 @@ module _ {jobs : ℕ} {rules : List Rule} {b : List ℤ} {s : ℕ} (l : Looping 
   made =
       let st = finally jobs rules l.running.calls in
       let e : pass (floor rules) rules st.times st.tally.steps ≡ w =
-      ap (λ (t : List ℤ). pass (floor rules) rules t st.tally.steps) l.running.same_times_lem
+      ap (λ (t : List ℤ). pass (floor rules) rules t st.tally.steps) l.running.same_times
       ∙ (ap (λ (n : ℕ). pass (floor rules) rules b n) l.running.same_steps ∙ sym said) in
       subst (PassIs jobs rules rules st (up_from 0 (length rules))) e (pass_is l.running.accepted rules 0 st (reached l.running) (high l.running) refl)
 
@@ -180,7 +180,7 @@ module _ {jobs : ℕ} {rules : List Rule} {b : List ℤ} {s : ℕ} (l : Looping 
         running = record {
           accepted = l.running.accepted;
           calls = l.running.calls ++ up_from 0 (length rules);
-          same_times_lem = ap (λ (x : State). x.times) (run_append jobs rules (initial jobs) l.running.calls (up_from 0 (length rules))) ∙ made.times_is;
+          same_times = ap (λ (x : State). x.times) (run_append jobs rules (initial jobs) l.running.calls (up_from 0 (length rules))) ∙ made.times_is;
           same_steps = ap (λ (x : State). x.tally.steps) (run_append jobs rules (initial jobs) l.running.calls (up_from 0 (length rules))) ∙ made.steps_is;
           above = made.above e;
         };

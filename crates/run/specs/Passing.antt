@@ -16,7 +16,7 @@ run_of out times = record { times = times; steps = out.steps; end = cond out.fel
 pub record Running (jobs : ℕ) (rules : List Rule) (times : List ℤ) (steps : ℕ) : Type 0 where
   pub accepted : Accepted jobs rules
   pub calls : List ℕ
-  pub same_times_lem : (finally jobs rules calls).times ≡ times
+  pub same_times : (finally jobs rules calls).times ≡ times
   pub same_steps : (finally jobs rules calls).tally.steps ≡ steps
   pub above : below_floor (floor rules) times ≡ false
 
