@@ -5,157 +5,150 @@
 use planner::{
     Class, FirstViolated, Outcome, Read, Refusal, Rule, Solved, Tally, Tightness, class_of,
 };
+use std::io;
 use table::size_of;
 
-fn say(n: u64) {
-    io::write_all(1, b" ");
-    io::print_decimal(1, n);
+fn say(rt: &impl Print, n: u64) -> io::Result<()> {
+    print!(rt; " {n}")
 }
 
-fn say_signed(t: i32) {
+fn say_signed(rt: &impl Print, t: i32) -> io::Result<()> {
     if t < 0 {
-        io::write_all(1, b" -");
+        print!(rt; " -")?;
     } else {
-        io::write_all(1, b" ");
+        print!(rt; " ")?;
     }
-    io::print_decimal(1, size_of(t) as u64);
+    let size = size_of(t);
+    print!(rt; "{size}")
 }
 
-fn say_refusal(r: Refusal) {
-    io::write_all(1, b" REFUSED");
-    say(r.number as u64);
-    say(r.place as u64);
+fn say_refusal(rt: &impl Print, r: Refusal) -> io::Result<()> {
+    print!(rt; " REFUSED")?;
+    say(rt, r.number as u64)?;
+    say(rt, r.place as u64)
 }
 
-fn say_times(times: &[i32]) {
-    io::write_all(1, b" TIMES");
+fn say_times(rt: &impl Print, times: &[i32]) -> io::Result<()> {
+    print!(rt; " TIMES")?;
     let mut i = 0;
     while i < times.len() {
-        say_signed(times[i]);
+        say_signed(rt, times[i])?;
         i += 1;
     }
+    Ok(())
 }
 
-fn say_tally(tally: Tally) {
-    io::write_all(1, b" TALLY");
-    say(tally.steps);
-    say(tally.minutes);
+fn say_tally(rt: &impl Print, tally: Tally) -> io::Result<()> {
+    print!(rt; " TALLY")?;
+    say(rt, tally.steps)?;
+    say(rt, tally.minutes)
 }
 
-fn say_class(r: Rule) {
+fn say_class(rt: &impl Print, r: Rule) -> io::Result<()> {
     match class_of(r.x, r.y, r.z, r.k) {
-        Class::Tautology => {
-            io::write_all(1, b" IDLE");
-        }
-        Class::Contradiction => {
-            io::write_all(1, b" IMPOSSIBLE");
-        }
-        Class::Difference => {
-            io::write_all(1, b" ONE-ARMED");
-        }
-        Class::Disjunctive => {
-            io::write_all(1, b" TWO-ARMED");
-        }
+        Class::Tautology => print!(rt; " IDLE"),
+        Class::Contradiction => print!(rt; " IMPOSSIBLE"),
+        Class::Difference => print!(rt; " ONE-ARMED"),
+        Class::Disjunctive => print!(rt; " TWO-ARMED"),
     }
 }
 
-fn say_solved(said: Solved) {
+fn say_solved(rt: &impl Print, said: Solved) -> io::Result<()> {
     match said {
         Solved::Plan(steps) => {
-            io::write_all(1, b" PLAN");
-            say(steps);
+            print!(rt; " PLAN")?;
+            say(rt, steps)
         }
         Solved::None(steps, job) => {
-            io::write_all(1, b" NONE");
-            say(steps);
-            say(job as u64);
+            print!(rt; " NONE")?;
+            say(rt, steps)?;
+            say(rt, job as u64)
         }
-        Solved::Refused(r) => {
-            say_refusal(r);
-        }
+        Solved::Refused(r) => say_refusal(rt, r),
     }
 }
 
-fn say_violated(said: FirstViolated) {
+fn say_violated(rt: &impl Print, said: FirstViolated) -> io::Result<()> {
     match said {
-        FirstViolated::Nothing => {
-            io::write_all(1, b" KEPT");
-        }
+        FirstViolated::Nothing => print!(rt; " KEPT"),
         FirstViolated::At(i) => {
-            io::write_all(1, b" BROKEN");
-            say(i as u64);
+            print!(rt; " BROKEN")?;
+            say(rt, i as u64)
         }
-        FirstViolated::Refused(r) => {
-            say_refusal(r);
-        }
+        FirstViolated::Refused(r) => say_refusal(rt, r),
     }
 }
 
-fn say_tightness(said: Tightness) {
+fn say_tightness(rt: &impl Print, said: Tightness) -> io::Result<()> {
     match said {
-        Tightness::Tight => {
-            io::write_all(1, b" TIGHT");
-        }
-        Tightness::Slack => {
-            io::write_all(1, b" SLACK");
-        }
-        Tightness::Refused(r) => {
-            say_refusal(r);
-        }
+        Tightness::Tight => print!(rt; " TIGHT"),
+        Tightness::Slack => print!(rt; " SLACK"),
+        Tightness::Refused(r) => say_refusal(rt, r),
     }
 }
 
-fn say_stepped(said: Outcome) {
+fn say_stepped(rt: &impl Print, said: Outcome) -> io::Result<()> {
     match said {
-        Outcome::Done => {
-            io::write_all(1, b" STEPPED");
-        }
-        Outcome::Refused(r) => {
-            say_refusal(r);
-        }
+        Outcome::Done => print!(rt; " STEPPED"),
+        Outcome::Refused(r) => say_refusal(rt, r),
     }
 }
 
 // The class of each rule.
-fn say_classes(table: [Rule; 1025], count: usize) {
+fn say_classes(rt: &impl Print, table: [Rule; 1025], count: usize) -> io::Result<()> {
     let mut i = 0;
     while i < count {
         if i < 1025 {
-            say_class(table[i]);
+            say_class(rt, table[i])?;
         }
         i += 1;
     }
+    Ok(())
 }
 
 // The tight test on each rule.
-fn say_tight(n: usize, table: [Rule; 1025], count: usize, times: &[i32]) {
+fn say_tight(
+    rt: &impl Print,
+    n: usize,
+    table: [Rule; 1025],
+    count: usize,
+    times: &[i32],
+) -> io::Result<()> {
     let mut i = 0;
     while i < count {
-        say_tightness(lent::is_tight(n, table, count, times, i));
+        say_tightness(rt, lent::is_tight(n, table, count, times, i))?;
         i += 1;
     }
+    Ok(())
 }
 
 // A book: its classes, what the bench run says and leaves, and the kept and the tight test on what it leaves.
-fn bench(n: usize, table: [Rule; 1025], count: usize, times: &mut [i32]) {
-    io::write_all(1, b" BOOK");
-    say(n as u64);
-    say(count as u64);
-    say_classes(table, count);
-    say_solved(lent::solve(n, table, count, times));
-    say_times(times);
-    say_violated(lent::first_violated(n, table, count, times));
-    say_tight(n, table, count, times);
+fn bench(
+    rt: &impl Print,
+    n: usize,
+    table: [Rule; 1025],
+    count: usize,
+    times: &mut [i32],
+) -> io::Result<()> {
+    print!(rt; " BOOK")?;
+    say(rt, n as u64)?;
+    say(rt, count as u64)?;
+    say_classes(rt, table, count)?;
+    say_solved(rt, lent::solve(n, table, count, times))?;
+    say_times(rt, times)?;
+    say_violated(rt, lent::first_violated(n, table, count, times))?;
+    say_tight(rt, n, table, count, times)
 }
 
 // Hand steps on rule 0 upward, the last on no rule: the tally after them.
 fn hand_round(
+    rt: &impl Print,
     n: usize,
     table: [Rule; 1025],
     count: usize,
     times: &mut [i32],
     tally: Tally,
-) -> Tally {
+) -> io::Result<Tally> {
     let mut steps = tally.steps;
     let mut minutes = tally.minutes;
     let mut i = 0;
@@ -169,7 +162,7 @@ fn hand_round(
         steps = after.steps;
         minutes = after.minutes;
         let said = one.said;
-        say_stepped(said);
+        say_stepped(rt, said)?;
         i += 1;
     }
     let t = Tally {
@@ -178,49 +171,60 @@ fn hand_round(
     };
     let last = lent::step(n, table, count, times, t, count);
     let said = last.said;
-    say_stepped(said);
-    last.tally
+    say_stepped(rt, said)?;
+    Ok(last.tally)
 }
 
 // Three rounds of hand steps on a fresh board.
-fn hand(n: usize, table: [Rule; 1025], count: usize, times: &mut [i32]) {
+fn hand(
+    rt: &impl Print,
+    n: usize,
+    table: [Rule; 1025],
+    count: usize,
+    times: &mut [i32],
+) -> io::Result<()> {
     let fresh = Tally {
         steps: 0,
         minutes: 0,
     };
-    let one = hand_round(n, table, count, times, fresh);
-    let two = hand_round(n, table, count, times, one);
-    let three = hand_round(n, table, count, times, two);
-    say_times(times);
-    say_tally(three);
+    let one = hand_round(rt, n, table, count, times, fresh)?;
+    let two = hand_round(rt, n, table, count, times, one)?;
+    let three = hand_round(rt, n, table, count, times, two)?;
+    say_times(rt, times)?;
+    say_tally(rt, three)
 }
 
 // A book: a line with the bench run, and one with hand steps.
-fn both(name: &[u8], n: usize, table: [Rule; 1025], count: usize) {
+fn both(
+    rt: &impl Print,
+    name: &str,
+    n: usize,
+    table: [Rule; 1025],
+    count: usize,
+) -> io::Result<()> {
     let mut times = [0i32; 256];
     let mut board = [0i32; 256];
     if n <= 256 {
-        io::write_all(1, name);
-        bench(n, table, count, &mut times[0..n]);
-        io::write_all(1, b"\n");
-        io::write_all(1, name);
-        hand(n, table, count, &mut board[0..n]);
-        io::write_all(1, b"\n");
+        print!(rt; "{name}")?;
+        bench(rt, n, table, count, &mut times[0..n])?;
+        println!(rt)?;
+        print!(rt; "{name}")?;
+        hand(rt, n, table, count, &mut board[0..n])?;
+        println!(rt)?;
     }
+    Ok(())
 }
 
-fn example(name: &[u8], file: &[u8]) {
+fn example(rt: &impl Print, name: &str, file: &[u8]) -> io::Result<()> {
     let read = lent::read_book(file, lent::no_rules(), 1025);
     let said = read.said;
     let table = read.table;
     match said {
-        Read::Book(c) => {
-            both(name, c.jobs, table, c.rules);
-        }
+        Read::Book(c) => both(rt, name, c.jobs, table, c.rules),
         Read::Refused(r) => {
-            io::write_all(1, name);
-            say_refusal(r);
-            io::write_all(1, b"\n");
+            print!(rt; "{name}")?;
+            say_refusal(rt, r)?;
+            println!(rt)
         }
     }
 }
@@ -235,27 +239,26 @@ fn rule(x: u16, y: u16, z: u16, k: i32) -> Rule {
 }
 
 // The reader, with so many places in the table.
-fn reading(name: &[u8], file: &[u8], places: usize) {
-    io::write_all(1, name);
-    io::write_all(1, b" PLACES");
-    say(places as u64);
+fn reading(rt: &impl Print, name: &str, file: &[u8], places: usize) -> io::Result<()> {
+    print!(rt; "{name} PLACES")?;
+    say(rt, places as u64)?;
     let read = lent::read_book(file, lent::no_rules(), places);
     let said = read.said;
     match said {
         Read::Book(c) => {
-            io::write_all(1, b" BOOK");
-            say(c.jobs as u64);
-            say(c.rules as u64);
+            print!(rt; " BOOK")?;
+            say(rt, c.jobs as u64)?;
+            say(rt, c.rules as u64)?;
         }
         Read::Refused(r) => {
-            say_refusal(r);
+            say_refusal(rt, r)?;
         }
     }
-    io::write_all(1, b"\n");
+    println!(rt)
 }
 
 // Example L: a hand step that leaves its rule broken.
-fn step_of_l(file: &[u8]) {
+fn step_of_l(rt: &impl Print, file: &[u8]) -> io::Result<()> {
     let read = lent::read_book(file, lent::no_rules(), 1025);
     let table = read.table;
     let mut times: [i32; 2] = [0, -3];
@@ -265,139 +268,155 @@ fn step_of_l(file: &[u8]) {
     };
     let one = lent::step(2, table, 2, &mut times, before, 0);
     let said = one.said;
-    io::write_all(1, b"L");
-    say_stepped(said);
-    say_times(&times);
-    say_tally(one.tally);
-    say_violated(lent::first_violated(2, table, 2, &times));
-    io::write_all(1, b"\n");
+    print!(rt; "L")?;
+    say_stepped(rt, said)?;
+    say_times(rt, &times)?;
+    say_tally(rt, one.tally)?;
+    say_violated(rt, lent::first_violated(2, table, 2, &times))?;
+    println!(rt)
 }
 
-fn say_rule(r: Rule) {
-    say(r.x as u64);
-    say(r.y as u64);
-    say(r.z as u64);
-    say_signed(r.k);
+fn say_rule(rt: &impl Print, r: Rule) -> io::Result<()> {
+    say(rt, r.x as u64)?;
+    say(rt, r.y as u64)?;
+    say(rt, r.z as u64)?;
+    say_signed(rt, r.k)
 }
 
 // Each call that takes a table: the bench run, the tests on what it leaves, and a hand step on a fresh board.
-fn each_call(n: usize, table: [Rule; 1025], count: usize, times: &mut [i32], board: &mut [i32]) {
-    say_solved(lent::solve(n, table, count, times));
-    say_violated(lent::first_violated(n, table, count, times));
-    say_tightness(lent::is_tight(n, table, count, times, 0));
+fn each_call(
+    rt: &impl Print,
+    n: usize,
+    table: [Rule; 1025],
+    count: usize,
+    times: &mut [i32],
+    board: &mut [i32],
+) -> io::Result<()> {
+    say_solved(rt, lent::solve(n, table, count, times))?;
+    say_violated(rt, lent::first_violated(n, table, count, times))?;
+    say_tightness(rt, lent::is_tight(n, table, count, times, 0))?;
     let fresh = Tally {
         steps: 0,
         minutes: 0,
     };
     let one = lent::step(n, table, count, board, fresh, 0);
     let said = one.said;
-    say_stepped(said);
-    say_tally(one.tally);
+    say_stepped(rt, said)?;
+    say_tally(rt, one.tally)
 }
 
 // So many of one rule, with buffers of that length.
-fn limit(n: usize, r: Rule, count: usize, length: usize) {
-    io::write_all(1, b"LIMIT");
-    say(n as u64);
-    say_rule(r);
-    say(count as u64);
-    say(length as u64);
+fn limit(rt: &impl Print, n: usize, r: Rule, count: usize, length: usize) -> io::Result<()> {
+    print!(rt; "LIMIT")?;
+    say(rt, n as u64)?;
+    say_rule(rt, r)?;
+    say(rt, count as u64)?;
+    say(rt, length as u64)?;
     let mut times = [0i32; 257];
     let mut board = [0i32; 257];
     if length <= 257 {
         each_call(
+            rt,
             n,
             [r; 1025],
             count,
             &mut times[0..length],
             &mut board[0..length],
-        );
+        )?;
     }
-    io::write_all(1, b"\n");
+    println!(rt)
 }
 
 // A hand step on example D's rule, or on no rule, from any board and tally.
-fn held(time: i32, steps: u64, minutes: u64, number: usize) {
-    io::write_all(1, b"HELD");
+fn held(rt: &impl Print, time: i32, steps: u64, minutes: u64, number: usize) -> io::Result<()> {
+    print!(rt; "HELD")?;
     let before = Tally {
         steps: steps,
         minutes: minutes,
     };
     let mut times: [i32; 1] = [time];
     let table = [rule(0, 0, 0, -1); 1025];
-    say_times(&times);
-    say_tally(before);
-    say(number as u64);
+    say_times(rt, &times)?;
+    say_tally(rt, before)?;
+    say(rt, number as u64)?;
     let one = lent::step(1, table, 1, &mut times, before, number);
     let said = one.said;
-    say_stepped(said);
-    say_times(&times);
-    say_tally(one.tally);
-    io::write_all(1, b"\n");
+    say_stepped(rt, said)?;
+    say_times(rt, &times)?;
+    say_tally(rt, one.tally)?;
+    println!(rt)
 }
 
-fn main() {
+fn main(rt: HostRuntime) -> io::Result<()> {
     let b =
         b"BK\x04\x00RU\x00\x00\x00\x00\x01\x00\xf6\xff\xff\xffRU\x03\x00\x03\x00\x02\x00\x00\x00\x00\x00RU\x01\x00\x02\x00\x03\x00\xff\xff\xff\xffRU\x01\x00\x00\x00\x03\x00\x19\x00\x00\x00";
     let l =
         b"BK\x02\x00RU\x00\x00\x01\x00\x00\x00\xff\xff\xff\xffRU\x00\x00\x00\x00\x01\x00\xfd\xff\xff\xff";
-    example(b"A", b"BK\x01\x00");
-    example(b"B", b);
+    example(&rt, "A", b"BK\x01\x00")?;
+    example(&rt, "B", b)?;
     example(
-        b"C",
+        &rt,
+        "C",
         b"BK\x04\x00RU\x00\x00\x00\x00\x01\x00\xf6\xff\xff\xffRU\x03\x00\x03\x00\x02\x00\x00\x00\x00\x00RU\x01\x00\x02\x00\x03\x00\xff\xff\xff\xffRU\x01\x00\x00\x00\x03\x00\x19\x00\x00\x00RU\x01\x00\x02\x00\x00\x00\x09\x00\x00\x00",
-    );
+    )?;
     example(
-        b"D",
+        &rt,
+        "D",
         b"BK\x01\x00RU\x00\x00\x00\x00\x00\x00\xff\xff\xff\xff",
-    );
+    )?;
     example(
-        b"E",
+        &rt,
+        "E",
         b"BK\x01\x00RU\x00\x00\x00\x00\x00\x00\x00\x00\x00\x00",
-    );
+    )?;
     example(
-        b"F",
+        &rt,
+        "F",
         b"BK\x02\x00RU\x00\x00\x01\x00\x00\x00\xff\xff\xff\xff",
-    );
+    )?;
     example(
-        b"G",
+        &rt,
+        "G",
         b"BK\x02\x00RU\x00\x00\x00\x00\x01\x00\xfb\xff\xff\xff",
-    );
+    )?;
     example(
-        b"H",
+        &rt,
+        "H",
         b"BK\x02\x00RU\x00\x00\x00\x00\x01\x00\x05\x00\x00\x00",
-    );
+    )?;
     example(
-        b"I",
+        &rt,
+        "I",
         b"BK\x02\x00RU\x00\x00\x00\x00\x01\x00\xff\xff\xff\xffRU\x01\x00\x01\x00\x00\x00\x00\x00\x00\x00",
-    );
+    )?;
     example(
-        b"J",
+        &rt,
+        "J",
         b"BK\x02\x00RU\x00\x00\x00\x00\x01\x00\xff\xff\xff\xffRU\x01\x00\x01\x00\x00\x00\x01\x00\x00\x00",
-    );
-    example(b"L", l);
-    step_of_l(l);
-    reading(b"B", b, 3);
-    reading(b"B", b, 4);
-    limit(0, rule(0, 0, 0, 0), 0, 0);
-    limit(1, rule(0, 0, 0, 0), 0, 1);
-    limit(256, rule(0, 0, 0, 0), 0, 256);
-    limit(257, rule(0, 0, 0, 0), 0, 257);
-    limit(1, rule(0, 0, 0, 0), 1024, 1);
-    limit(1, rule(0, 0, 0, 0), 1025, 1);
-    limit(2, rule(0, 0, 1, 20160), 1, 2);
-    limit(2, rule(0, 0, 1, 20161), 1, 2);
-    limit(2, rule(0, 0, 1, -20160), 1, 2);
-    limit(2, rule(0, 0, 1, -20161), 1, 2);
-    limit(256, rule(0, 0, 255, -1), 1, 256);
-    limit(256, rule(0, 0, 256, -1), 1, 256);
-    limit(2, rule(0, 0, 1, -1), 1, 1);
-    limit(2, rule(0, 0, 1, -1), 1, 3);
-    held(1, 0, 0, 0);
-    held(-3, 3, 3, 0);
-    held(-1, 0, 0, 0);
-    held(-1, 2, 1, 0);
-    held(-1, 1, 1, 1);
-    held(-2, 2, 2, 0);
-    held(-1, 1, 1, 0);
+    )?;
+    example(&rt, "L", l)?;
+    step_of_l(&rt, l)?;
+    reading(&rt, "B", b, 3)?;
+    reading(&rt, "B", b, 4)?;
+    limit(&rt, 0, rule(0, 0, 0, 0), 0, 0)?;
+    limit(&rt, 1, rule(0, 0, 0, 0), 0, 1)?;
+    limit(&rt, 256, rule(0, 0, 0, 0), 0, 256)?;
+    limit(&rt, 257, rule(0, 0, 0, 0), 0, 257)?;
+    limit(&rt, 1, rule(0, 0, 0, 0), 1024, 1)?;
+    limit(&rt, 1, rule(0, 0, 0, 0), 1025, 1)?;
+    limit(&rt, 2, rule(0, 0, 1, 20160), 1, 2)?;
+    limit(&rt, 2, rule(0, 0, 1, 20161), 1, 2)?;
+    limit(&rt, 2, rule(0, 0, 1, -20160), 1, 2)?;
+    limit(&rt, 2, rule(0, 0, 1, -20161), 1, 2)?;
+    limit(&rt, 256, rule(0, 0, 255, -1), 1, 256)?;
+    limit(&rt, 256, rule(0, 0, 256, -1), 1, 256)?;
+    limit(&rt, 2, rule(0, 0, 1, -1), 1, 1)?;
+    limit(&rt, 2, rule(0, 0, 1, -1), 1, 3)?;
+    held(&rt, 1, 0, 0, 0)?;
+    held(&rt, -3, 3, 3, 0)?;
+    held(&rt, -1, 0, 0, 0)?;
+    held(&rt, -1, 2, 1, 0)?;
+    held(&rt, -1, 1, 1, 1)?;
+    held(&rt, -2, 2, 2, 0)?;
+    held(&rt, -1, 1, 1, 0)
 }

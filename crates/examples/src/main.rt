@@ -4,12 +4,14 @@
 
 use planner::{FirstViolated, Rule, Tally, record};
 use report::report;
+use std::io;
+use std::io::Write;
 
 // The text of a book's file.
-fn show(file: &[u8]) {
-    let mut text = io::large_buffer();
+fn show(rt: &impl Print, file: &[u8]) -> io::Result<()> {
+    let mut text = [0u8; 65536];
     let n = report(file, &mut text);
-    io::write_all(1, &text[..n]);
+    io::writer(rt).write_all(&text[..n])
 }
 
 fn wide(b: u8) -> u64 {
@@ -17,68 +19,55 @@ fn wide(b: u8) -> u64 {
 }
 
 // The bytes of a part, in decimal, each after a blank.
-fn show_bytes(part: &[u8]) {
+fn show_bytes(rt: &impl Print, part: &[u8]) -> io::Result<()> {
     let mut i = 0;
     while i < part.len() {
-        io::write_all(1, b" ");
-        io::print_decimal(1, wide(part[i]));
+        let byte = wide(part[i]);
+        print!(rt; " {byte}")?;
         i += 1;
     }
+    Ok(())
 }
 
 // The record of a rule: its number, its length and its bytes.
-fn show_record(file: &[u8], number: usize) {
+fn show_record(rt: &impl Print, file: &[u8], number: usize) -> io::Result<()> {
     let part = record(file, number);
-    io::write_all(1, b"RECORD ");
-    io::print_decimal(1, number as u64);
-    io::write_all(1, b" ");
-    io::print_decimal(1, part.len() as u64);
-    show_bytes(part);
-    io::write_all(1, b"\n");
+    let length = part.len();
+    print!(rt; "RECORD {number} {length}")?;
+    show_bytes(rt, part)?;
+    println!(rt)
 }
 
 // A time of example L.
-fn show_time(t: i32) {
+fn show_time(rt: &impl Print, t: i32) -> io::Result<()> {
     if t == 0 {
-        io::write_all(1, b" 0");
+        print!(rt; " 0")
     } else if t == -1 {
-        io::write_all(1, b" -1");
+        print!(rt; " -1")
     } else if t == -3 {
-        io::write_all(1, b" -3");
+        print!(rt; " -3")
     } else {
-        io::write_all(1, b" other");
+        print!(rt; " other")
     }
 }
 
-fn show_board(first: i32, second: i32, tally: Tally) {
-    io::write_all(1, b"BOARD");
-    show_time(first);
-    show_time(second);
-    io::write_all(1, b"\nTALLY ");
-    io::print_decimal(1, tally.steps);
-    io::write_all(1, b" ");
-    io::print_decimal(1, tally.minutes);
-    io::write_all(1, b"\n");
+fn show_board(rt: &impl Print, first: i32, second: i32, tally: Tally) -> io::Result<()> {
+    print!(rt; "BOARD")?;
+    show_time(rt, first)?;
+    show_time(rt, second)?;
+    println!(rt; "\nTALLY {} {}", tally.steps, tally.minutes)
 }
 
-fn show_violated(r: FirstViolated) {
+fn show_violated(rt: &impl Print, r: FirstViolated) -> io::Result<()> {
     match r {
-        FirstViolated::Nothing => {
-            io::write_all(1, b"KEPT\n");
-        }
-        FirstViolated::At(i) => {
-            io::write_all(1, b"BROKEN ");
-            io::print_decimal(1, i as u64);
-            io::write_all(1, b"\n");
-        }
-        FirstViolated::Refused(_) => {
-            io::write_all(1, b"REFUSED\n");
-        }
+        FirstViolated::Nothing => println!(rt; "KEPT"),
+        FirstViolated::At(i) => println!(rt; "BROKEN {i}"),
+        FirstViolated::Refused(_) => println!(rt; "REFUSED"),
     }
 }
 
 // Example L: from a fresh board a hand step on rule 1, then on rule 0, which stays violated.
-fn hand_steps() {
+fn hand_steps(rt: &impl Print) -> io::Result<()> {
     let mut table = lent::no_rules();
     table[0] = Rule {
         x: 0,
@@ -99,49 +88,53 @@ fn hand_steps() {
     };
     let one = lent::step(2, table, 2, &mut times, fresh, 1);
     let after_one = one.tally;
-    show_board(times[0], times[1], after_one);
+    show_board(rt, times[0], times[1], after_one)?;
     let two = lent::step(2, table, 2, &mut times, after_one, 0);
-    show_board(times[0], times[1], two.tally);
-    show_violated(lent::first_violated(2, table, 2, &times));
+    show_board(rt, times[0], times[1], two.tally)?;
+    show_violated(rt, lent::first_violated(2, table, 2, &times))
 }
 
-fn main() {
-    io::write_all(1, b"A\n");
-    show(b"BK\x01\x00");
-    io::write_all(1, b"B\n");
+fn main(rt: HostRuntime) -> io::Result<()> {
+    println!(rt; "A")?;
+    show(&rt, b"BK\x01\x00")?;
+    println!(rt; "B")?;
     show(
+        &rt,
         b"BK\x04\x00RU\x00\x00\x00\x00\x01\x00\xf6\xff\xff\xffRU\x03\x00\x03\x00\x02\x00\x00\x00\x00\x00RU\x01\x00\x02\x00\x03\x00\xff\xff\xff\xffRU\x01\x00\x00\x00\x03\x00\x19\x00\x00\x00",
-    );
-    io::write_all(1, b"C\n");
+    )?;
+    println!(rt; "C")?;
     show(
+        &rt,
         b"BK\x04\x00RU\x00\x00\x00\x00\x01\x00\xf6\xff\xff\xffRU\x03\x00\x03\x00\x02\x00\x00\x00\x00\x00RU\x01\x00\x02\x00\x03\x00\xff\xff\xff\xffRU\x01\x00\x00\x00\x03\x00\x19\x00\x00\x00RU\x01\x00\x02\x00\x00\x00\x09\x00\x00\x00",
-    );
-    io::write_all(1, b"D\n");
-    show(b"BK\x01\x00RU\x00\x00\x00\x00\x00\x00\xff\xff\xff\xff");
-    io::write_all(1, b"E\n");
-    show(b"BK\x01\x00RU\x00\x00\x00\x00\x00\x00\x00\x00\x00\x00");
-    io::write_all(1, b"F\n");
-    show(b"BK\x02\x00RU\x00\x00\x01\x00\x00\x00\xff\xff\xff\xff");
-    io::write_all(1, b"G\n");
-    show(b"BK\x02\x00RU\x00\x00\x00\x00\x01\x00\xfb\xff\xff\xff");
-    io::write_all(1, b"H\n");
-    show(b"BK\x02\x00RU\x00\x00\x00\x00\x01\x00\x05\x00\x00\x00");
-    io::write_all(1, b"I\n");
+    )?;
+    println!(rt; "D")?;
+    show(&rt, b"BK\x01\x00RU\x00\x00\x00\x00\x00\x00\xff\xff\xff\xff")?;
+    println!(rt; "E")?;
+    show(&rt, b"BK\x01\x00RU\x00\x00\x00\x00\x00\x00\x00\x00\x00\x00")?;
+    println!(rt; "F")?;
+    show(&rt, b"BK\x02\x00RU\x00\x00\x01\x00\x00\x00\xff\xff\xff\xff")?;
+    println!(rt; "G")?;
+    show(&rt, b"BK\x02\x00RU\x00\x00\x00\x00\x01\x00\xfb\xff\xff\xff")?;
+    println!(rt; "H")?;
+    show(&rt, b"BK\x02\x00RU\x00\x00\x00\x00\x01\x00\x05\x00\x00\x00")?;
+    println!(rt; "I")?;
     show(
+        &rt,
         b"BK\x02\x00RU\x00\x00\x00\x00\x01\x00\xff\xff\xff\xffRU\x01\x00\x01\x00\x00\x00\x00\x00\x00\x00",
-    );
-    io::write_all(1, b"J\n");
+    )?;
+    println!(rt; "J")?;
     show(
+        &rt,
         b"BK\x02\x00RU\x00\x00\x00\x00\x01\x00\xff\xff\xff\xffRU\x01\x00\x01\x00\x00\x00\x01\x00\x00\x00",
-    );
-    io::write_all(1, b"L\n");
-    hand_steps();
-    io::write_all(1, b"B\n");
+    )?;
+    println!(rt; "L")?;
+    hand_steps(&rt)?;
+    println!(rt; "B")?;
     let b =
         b"BK\x04\x00RU\x00\x00\x00\x00\x01\x00\xf6\xff\xff\xffRU\x03\x00\x03\x00\x02\x00\x00\x00\x00\x00RU\x01\x00\x02\x00\x03\x00\xff\xff\xff\xffRU\x01\x00\x00\x00\x03\x00\x19\x00\x00\x00";
-    show_record(b, 0);
-    show_record(b, 1);
-    show_record(b, 2);
-    show_record(b, 3);
-    show_record(b, 4);
+    show_record(&rt, b, 0)?;
+    show_record(&rt, b, 1)?;
+    show_record(&rt, b, 2)?;
+    show_record(&rt, b, 3)?;
+    show_record(&rt, b, 4)
 }

@@ -2,12 +2,34 @@
 
 #![tactic(auto)]
 
-use report::report;
+ghost use Rattle.std.specs.Prelude.{◌≤◌, IfOk, length};
 
-fn main() {
+use report::report;
+use std::io;
+use std::io::{Read, Write};
+
+// Reads until buf is full or the input ends: how many bytes it put at the start of buf.
+fn read_full(input: &mut impl Read, buf: &mut [u8]) -> io::Result<usize>
+    ensures { IfOk result (λ n. n ≤ length buf.new) }
+{
+    let mut done = 0;
+    for _ in 0..u64::MAX {
+        if buf.len() <= done {
+            break;
+        }
+        let n = input.read(&mut buf[done..])?;
+        if n == 0 {
+            break;
+        }
+        done += n;
+    }
+    Ok(done)
+}
+
+fn main(rt: HostRuntime) -> io::Result<()> {
     let mut file: [u8; 16384] = [0; 16384];
-    let got = io::read_full(0, &mut file);
-    let mut text = io::large_buffer();
+    let got = read_full(&mut rt.reader(), &mut file)?;
+    let mut text = [0u8; 65536];
     let n = report(&file[..got], &mut text);
-    io::write_all(1, &text[..n]);
+    io::writer(&rt).write_all(&text[..n])
 }

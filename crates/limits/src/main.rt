@@ -5,6 +5,7 @@
 ghost use Rattle.std.specs.Prelude.{◌<◌, ◌≤◌};
 
 use planner::{Outcome, Read, write_plan};
+use std::io;
 
 fn put(buf: &mut [u8], at: usize, b: u8) {
     if at < buf.len() {
@@ -58,137 +59,116 @@ fn put_hours(buf: &mut [u8], at: usize, z: u16, hours: u16)
     put16(buf, at + 8, hours);
 }
 
-fn say(a: u64, b: u64) {
-    io::print_decimal(1, a);
-    io::write_all(1, b" ");
-    io::print_decimal(1, b);
-    io::write_all(1, b"\n");
+fn say(rt: &impl Print, a: u64, b: u64) -> io::Result<()> {
+    println!(rt; "{a} {b}")
 }
 
 // What the reader answers on the first n bytes.
-fn show(file: &[u8], n: usize) {
+fn show(rt: &impl Print, file: &[u8], n: usize) -> io::Result<()> {
     if file.len() < n {
-        return;
+        return Ok(());
     }
     let read = lent::read_book(&file[0..n], lent::no_rules(), 1024);
     let said = read.said;
     match said {
         Read::Book(c) => {
-            io::write_all(1, b"BOOK ");
-            say(c.jobs as u64, c.rules as u64);
+            print!(rt; "BOOK ")?;
+            say(rt, c.jobs as u64, c.rules as u64)
         }
         Read::Refused(r) => {
-            io::write_all(1, b"REFUSED ");
-            say(r.number as u64, r.place as u64);
+            print!(rt; "REFUSED ")?;
+            say(rt, r.number as u64, r.place as u64)
         }
     }
 }
 
-fn with_jobs(buf: &mut [u8], jobs: u16) {
-    io::write_all(1, b"jobs ");
-    io::print_decimal(1, jobs as u64);
-    io::write_all(1, b": ");
+fn with_jobs(rt: &impl Print, buf: &mut [u8], jobs: u16) -> io::Result<()> {
+    print!(rt; "jobs {jobs}: ")?;
     put_book(buf, jobs);
-    show(buf, 4);
+    show(rt, buf, 4)
 }
 
-fn with_rules(buf: &mut [u8], count: usize)
+fn with_rules(rt: &impl Print, buf: &mut [u8], count: usize) -> io::Result<()>
     requires { count ≤ 1025 }
 {
-    io::write_all(1, b"rules ");
-    io::print_decimal(1, count as u64);
-    io::write_all(1, b": ");
+    print!(rt; "rules {count}: ")?;
     put_book(buf, 1);
     let mut i = 0;
     while i < count {
         put_rule(buf, 4 + i * 12, 0, 0);
         i += 1;
     }
-    show(buf, 4 + count * 12);
+    show(rt, buf, 4 + count * 12)
 }
 
 // An offset by its 32 bits.
-fn with_offset(buf: &mut [u8], bits: u32) {
-    io::write_all(1, b"offset bits ");
-    io::print_decimal(1, bits as u64);
-    io::write_all(1, b": ");
+fn with_offset(rt: &impl Print, buf: &mut [u8], bits: u32) -> io::Result<()> {
+    print!(rt; "offset bits {bits}: ")?;
     put_book(buf, 1);
     put_rule(buf, 4, 0, bits);
-    show(buf, 16);
+    show(rt, buf, 16)
 }
 
 // Hours by their 16 bits.
-fn with_hours(buf: &mut [u8], bits: u16) {
-    io::write_all(1, b"hours bits ");
-    io::print_decimal(1, bits as u64);
-    io::write_all(1, b": ");
+fn with_hours(rt: &impl Print, buf: &mut [u8], bits: u16) -> io::Result<()> {
+    print!(rt; "hours bits {bits}: ")?;
     put_book(buf, 1);
     put_hours(buf, 4, 0, bits);
-    show(buf, 14);
+    show(rt, buf, 14)
 }
 
-fn with_job(buf: &mut [u8], jobs: u16, z: u16) {
-    io::write_all(1, b"job of ");
-    io::print_decimal(1, jobs as u64);
-    io::write_all(1, b", ");
-    io::print_decimal(1, z as u64);
-    io::write_all(1, b": ");
+fn with_job(rt: &impl Print, buf: &mut [u8], jobs: u16, z: u16) -> io::Result<()> {
+    print!(rt; "job of {jobs}, {z}: ")?;
     put_book(buf, jobs);
     put_rule(buf, 4, z, 0);
-    show(buf, 16);
+    show(rt, buf, 16)
 }
 
 // What the plan writer answers on n times, from a byte of 2,048 on.
-fn with_times(n: usize, at: usize)
+fn with_times(rt: &impl Print, n: usize, at: usize) -> io::Result<()>
     requires { n ≤ 300 }
 {
-    io::write_all(1, b"times ");
-    io::print_decimal(1, n as u64);
-    io::write_all(1, b" at ");
-    io::print_decimal(1, at as u64);
-    io::write_all(1, b": ");
+    print!(rt; "times {n} at {at}: ")?;
     let times = [0i32; 300];
     let mut out = [0u8; 2048];
     match write_plan(&times[0..n], &mut out, at) {
-        Outcome::Done => {
-            io::write_all(1, b"WRITTEN\n");
-        }
+        Outcome::Done => println!(rt; "WRITTEN"),
         Outcome::Refused(r) => {
-            io::write_all(1, b"REFUSED ");
-            say(r.number as u64, r.place as u64);
+            print!(rt; "REFUSED ")?;
+            say(rt, r.number as u64, r.place as u64)
         }
     }
 }
 
-fn main() {
+fn main(rt: HostRuntime) -> io::Result<()> {
     let mut buf = [0u8; 16384];
-    with_jobs(&mut buf, 0);
-    with_jobs(&mut buf, 1);
-    with_jobs(&mut buf, 256);
-    with_jobs(&mut buf, 257);
-    with_rules(&mut buf, 1024);
-    with_rules(&mut buf, 1025);
-    with_offset(&mut buf, 20160);
-    with_offset(&mut buf, 20161);
-    with_offset(&mut buf, 4294947136);
-    with_offset(&mut buf, 4294947135);
-    with_hours(&mut buf, 336);
-    with_hours(&mut buf, 337);
-    with_hours(&mut buf, 65200);
-    with_hours(&mut buf, 65199);
-    with_job(&mut buf, 256, 255);
-    with_job(&mut buf, 256, 256);
-    io::write_all(1, b"42 4B 01 00 52: ");
-    show(b"\x42\x4B\x01\x00\x52", 5);
-    io::write_all(1, b"no byte: ");
-    show(b"\x42", 0);
-    with_times(0, 0);
-    with_times(1, 0);
-    with_times(256, 0);
-    with_times(256, 1);
-    with_times(257, 0);
-    with_times(1, 2040);
-    with_times(1, 2041);
-    with_times(1, 2049);
-    with_times(1, 18446744073709551615);
+    with_jobs(&rt, &mut buf, 0)?;
+    with_jobs(&rt, &mut buf, 1)?;
+    with_jobs(&rt, &mut buf, 256)?;
+    with_jobs(&rt, &mut buf, 257)?;
+    with_rules(&rt, &mut buf, 1024)?;
+    with_rules(&rt, &mut buf, 1025)?;
+    with_offset(&rt, &mut buf, 20160)?;
+    with_offset(&rt, &mut buf, 20161)?;
+    with_offset(&rt, &mut buf, 4294947136)?;
+    with_offset(&rt, &mut buf, 4294947135)?;
+    with_hours(&rt, &mut buf, 336)?;
+    with_hours(&rt, &mut buf, 337)?;
+    with_hours(&rt, &mut buf, 65200)?;
+    with_hours(&rt, &mut buf, 65199)?;
+    with_job(&rt, &mut buf, 256, 255)?;
+    with_job(&rt, &mut buf, 256, 256)?;
+    print!(rt; "42 4B 01 00 52: ")?;
+    show(&rt, b"\x42\x4B\x01\x00\x52", 5)?;
+    print!(rt; "no byte: ")?;
+    show(&rt, b"\x42", 0)?;
+    with_times(&rt, 0, 0)?;
+    with_times(&rt, 1, 0)?;
+    with_times(&rt, 256, 0)?;
+    with_times(&rt, 256, 1)?;
+    with_times(&rt, 257, 0)?;
+    with_times(&rt, 1, 2040)?;
+    with_times(&rt, 1, 2041)?;
+    with_times(&rt, 1, 2049)?;
+    with_times(&rt, 1, 18446744073709551615)
 }

@@ -6,6 +6,7 @@
 ghost use Rattle.std.specs.Prelude.{◌<◌, ◌≤◌};
 
 use planner::{FirstViolated, Outcome, Rule, Solved, Tally};
+use std::io;
 
 // Two rules over n jobs are a number: the low three digits to base n are the first rule's jobs, the next, to base 3, is its offset
 // and 1, and what is left is the second rule.
@@ -67,7 +68,7 @@ fn table_of(n: usize, c: usize) -> [Rule; 1025]
 
 // What was found, and in how many steps: a plan at the times -a, -b and -e (kind 0), none (1), or what should not be (2 and more).
 // A job that the book has not stands at 0.
-#[derive(Drop)]
+#[derive(Clone, Copy)]
 struct Answer {
     kind: usize,
     a: usize,
@@ -328,7 +329,7 @@ fn tried(order: usize, n: usize, count: usize, c: usize) -> Answer
     agreed(order, n, table_of(n, c), count, found)
 }
 
-#[derive(Drop)]
+#[derive(Clone, Copy)]
 struct Counts {
     plans: u64,
     nones: u64,
@@ -375,37 +376,43 @@ fn books(order: usize, n: usize, count: usize, many: usize) -> Counts
     t
 }
 
-fn say(word: &[u8], n: u64) {
-    io::write_all(1, word);
-    io::print_decimal(1, n);
+fn say(rt: &impl Print, word: &str, n: u64) -> io::Result<()> {
+    print!(rt; "{word}{n}")
 }
 
-fn show(name: &[u8], order: usize, n: usize, count: usize, many: usize)
+fn show(
+    rt: &impl Print,
+    name: &str,
+    order: usize,
+    n: usize,
+    count: usize,
+    many: usize,
+) -> io::Result<()>
     requires { (0 < n) × (n ≤ 3) }
 {
     let t = books(order, n, count, many);
-    io::write_all(1, name);
-    say(b" JOBS ", n as u64);
-    say(b" RULES ", count as u64);
-    say(b" BOOKS ", many as u64);
-    say(b" PLANS ", t.plans);
-    say(b" NONES ", t.nones);
-    say(b" STEPS ", t.steps);
-    say(b" DIFFERING ", t.differing);
-    io::write_all(1, b"\n");
+    print!(rt; "{name}")?;
+    say(rt, " JOBS ", n as u64)?;
+    say(rt, " RULES ", count as u64)?;
+    say(rt, " BOOKS ", many as u64)?;
+    say(rt, " PLANS ", t.plans)?;
+    say(rt, " NONES ", t.nones)?;
+    say(rt, " STEPS ", t.steps)?;
+    say(rt, " DIFFERING ", t.differing)?;
+    println!(rt)
 }
 
-fn orders(n: usize, count: usize, many: usize)
+fn orders(rt: &impl Print, n: usize, count: usize, many: usize) -> io::Result<()>
     requires { (0 < n) × (n ≤ 3) }
 {
-    show(b"DOWN", 0, n, count, many);
-    show(b"UP", 1, n, count, many);
-    show(b"FIRST", 2, n, count, many);
+    show(rt, "DOWN", 0, n, count, many)?;
+    show(rt, "UP", 1, n, count, many)?;
+    show(rt, "FIRST", 2, n, count, many)
 }
 
-fn main() {
-    orders(2, 0, 1);
-    orders(2, 1, 24);
-    orders(2, 2, 576);
-    orders(3, 2, 6561);
+fn main(rt: HostRuntime) -> io::Result<()> {
+    orders(&rt, 2, 0, 1)?;
+    orders(&rt, 2, 1, 24)?;
+    orders(&rt, 2, 2, 576)?;
+    orders(&rt, 3, 2, 6561)
 }
