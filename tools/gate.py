@@ -3,8 +3,7 @@
 
 - The stored output of each test program is what tools/reference.py derives.
 - No public call has a `requires`: those of `planner`, its own and the ones that it passes on, those that `marlinfray` exports, and the
-  report.
-- The committed walks are those that tools/walkgen.py wrote, from the source as it is."""
+  report."""
 
 import glob
 import os
@@ -64,17 +63,9 @@ def entry_points():
             wrong.append(f"{name} is public and ensures nothing")
 
 
-def walks():
-    for description in sorted(glob.glob("tools/walks/*.json")):
-        made = subprocess.run([sys.executable, "tools/walkgen.py", "--quick", description], capture_output=True, text=True)
-        if made.returncode:
-            wrong.append(f"{made.stderr.strip()}; to write it: python3 tools/walkgen.py {description}")
-
-
 os.chdir(os.path.join(os.path.dirname(os.path.abspath(__file__)), ".."))
 outputs()
 entry_points()
-walks()
 for line in wrong:
     print("gate: " + line)
 sys.exit(1 if wrong else 0)
