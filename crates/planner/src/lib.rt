@@ -95,6 +95,7 @@ fn choose(n: usize, rules: &[Rule], number: usize) -> Chosen
 }
 
 // Tight test. Any times, any rule number.
+#[tactic(auto, using(entries::proofs::Choosing::sound, entries::proofs::Choosing::tight_call_lem))]
 pub fn is_tight(n: usize, rules: &[Rule], times: &[i32], number: usize) -> Tightness
     ensures { tight_reply result ≡ tight_call n rules.now times.now number }
 {
@@ -103,6 +104,7 @@ pub fn is_tight(n: usize, rules: &[Rule], times: &[i32], number: usize) -> Tight
 }
 
 // The hand step for a caller that has its tally by value: the reply, and the tally after it.
+#[tactic(auto, using(entries::proofs::Choosing::sound))]
 pub fn step_by_value(
     n: usize,
     rules: &[Rule],

@@ -12,33 +12,33 @@ loop-i-init c = record { counted = omega arith; rules = made_none (rule_in c.arg
 pub rule_at-requires : goal.rule_at-requires
 rule_at-requires c =
     let h : c.loop-i.i < count_of c.read_within-said.result = omega arith in
-    turn_inside c.args.file.now (length c.args.rules.now) c.read_within-said.result c.read_within-said.ensures c.loop-i.invariant.next h
+    turn_inside c.args.file.now _ c.read_within-said.result c.read_within-said.ensures c.loop-i.invariant.next h
 
 pub bounds-rules-i : goal.bounds-rules-i
-bounds-rules-i c = omega (arith, count_fits c.args.file.now (length c.args.rules.now) c.read_within-said.result c.read_within-said.ensures)
+bounds-rules-i c = omega (arith, count_fits c.args.file.now _ c.read_within-said.result c.read_within-said.ensures)
 
 pub offset_bounds-rules-i : goal.offset_bounds-rules-i
-offset_bounds-rules-i c = omega (arith, count_fits c.args.file.now (length c.args.rules.now) c.read_within-said.result c.read_within-said.ensures)
+offset_bounds-rules-i c = omega (arith, count_fits c.args.file.now _ c.read_within-said.result c.read_within-said.ensures)
 
 pub next_record-at-requires : goal.next_record-at-requires
 next_record-at-requires c =
     let h : c.loop-i.i < count_of c.read_within-said.result = omega arith in
-    turn_inside c.args.file.now (length c.args.rules.now) c.read_within-said.result c.read_within-said.ensures c.loop-i.invariant.next h
+    turn_inside c.args.file.now _ c.read_within-said.result c.read_within-said.ensures c.loop-i.invariant.next h
 
 pub loop-i-preserved : goal.loop-i-preserved
 loop-i-preserved c =
     let h : c.loop-i.i < count_of c.read_within-said.result = omega arith in
     let lt : c.loop-i.i < length c.args.rules.now =
-    omega (arith, count_fits c.args.file.now (length c.args.rules.now) c.read_within-said.result c.read_within-said.ensures) in
+    omega (arith, count_fits c.args.file.now _ c.read_within-said.result c.read_within-said.ensures) in
     let is : c.rule_at.result ≡ rule_in c.args.file.now c.loop-i.i =
-    c.rule_at.ensures ∙ turn_rule c.args.file.now (length c.args.rules.now) c.read_within-said.result c.read_within-said.ensures c.loop-i.invariant.next h in
+    c.rule_at.ensures ∙ turn_rule c.args.file.now _ c.read_within-said.result c.read_within-said.ensures c.loop-i.invariant.next h in
     record {
       counted = omega arith;
       rules = made_put (rule_in c.args.file.now) c.loop-i.i c.args.rules.now c.loop-i.rules c.rule_at.result lt c.loop-i.invariant.rules is;
       next =
           λ (l : Listed c.args.file.now).
           rw c.next_record-at.ensures
-          (turn_next c.args.file.now (length c.args.rules.now) c.read_within-said.result c.read_within-said.ensures c.loop-i.invariant.next h l);
+          (turn_next c.args.file.now _ c.read_within-said.result c.read_within-said.ensures c.loop-i.invariant.next h l);
     }
 
 pub returns : goal.returns
