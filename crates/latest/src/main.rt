@@ -2,15 +2,17 @@
 
 #![tactic(auto)]
 
-ghost use Rattle.std.specs.Prelude.{◌≤◌, IfOk, length};
+ghost use Rattle.std.specs.Prelude.{◌≡◌, ◌≤◌, IfOk, IfSome, length, take};
 
 use report::report;
 use std::io;
 use std::io::{Read, Write};
 
-// Reads until buf is full or the input ends: how many bytes it put at the start of buf.
-fn read_full(input: &mut impl Read, buf: &mut [u8]) -> io::Result<usize>
-    ensures { IfOk result (λ n. n ≤ length buf.new) }
+// Reads until buf is full or the input ends, and returns how many bytes it put at the start of buf: where the input's bytes are known,
+// all that buf has room for.
+fn read_full<R: Read>(input: &mut R, buf: &mut [u8]) -> io::Result<usize>
+    ensures upper_bound { IfOk result (λ n. n ≤ length buf.new) }
+    ensures bytes { IfOk result (λ n. IfSome (R.remaining input.old) (λ xs. take n buf.new ≡ take (length buf.new) xs)) }
 {
     let mut done = 0;
     for _ in 0..u64::MAX {
