@@ -5,7 +5,7 @@
  * counted from hand-over, which is minute zero; those before it are negative. A book has n jobs, numbered from 0, and a table of
  * rules, numbered from 0 in the table's order. K is the sum of the table's offsets without their signs, and -K is the floor.
  *
- * Link libmarlinfray.a, which `rt staticlib marlinfray` writes to target/staticlib for x86-64.
+ * Link libmarlinfray.a, which `rt lib` in crates/marlinfray writes to its folder out/ for x86-64.
  *
  * What holds for every function:
  *

@@ -1,4 +1,4 @@
-// The public calls for C and Rust: `rt staticlib marlinfray` writes libmarlinfray.a, and embed/marlinfray.h says how C calls it. In C a
+// The public calls for C and Rust: `rt lib` here writes out/libmarlinfray.a, and embed/marlinfray.h says how C calls it. In C a
 // slice is a pointer and a length, and the reply is three words that the caller lends.
 
 #![tactic(auto)]
