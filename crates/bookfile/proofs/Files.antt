@@ -1,4 +1,4 @@
--- The files that document 01 names, computed from the definitions. Assumes nothing.
+-- The example files, computed from the definitions. Assumes nothing.
 use mathlib.Core.Path.{refl}
 use Rattle.derivation.specs.Refusals.{reply, job_outside}
 use Rattle.bookfile.specs.Numbers.{word, long, signed}

@@ -1,7 +1,9 @@
 pub mod Words
+pub mod Marks
 pub mod Records
 pub mod Rules
 pub mod Walks
+pub mod Storing
 pub mod Plans
 pub mod Prefix
 pub mod Determined

@@ -102,3 +102,6 @@ module _ {jobs : ℕ} {file : List ℕ} {at count : ℕ} (s : Scanned jobs file 
   scanned_all l =
       let n : count + 0 ≡ count = omega arith in
       sym (ap (λ (x : Reply (List Entry)). added count (counted jobs x)) (from_end jobs file count at l) ∙ ap (λ (m : ℕ). answer (record { jobs = jobs; rules = m })) n) ∙ s.rest
+
+-- what the code says of the records of rules
+pub ruleset scans = (scanned_none, scanned_not, scanned_all)

@@ -10,26 +10,34 @@ use lib.Seq.{drop-drop}
 use Rattle.maxatom.specs.declared.Rule.{Rule}
 use Rattle.maxatom.proofs.Choose.{cond_yes, cond_no}
 use Rattle.derivation.specs.Refusals.{Reply, refused, answer, accepts, reply, verdict, lent}
-use Rattle.derivation.proofs.Checks.{passed}
+use Rattle.derivation.proofs.Checks.{passed, accepting, refused_same}
 use Rattle.bookfile.specs.Numbers.{word}
 use Rattle.bookfile.specs.Reading.{size_at, rule_at, rule_reply, head_checks, Entry, before, rules_from, rules_of, after, book_reply, entries_of, entries, place_at, place_of, stretch, record_of}
-use Rattle.bookfile.specs.Replies.{counted, file_reply, roomed, read_reply, over, read_into, Listed, Begins}
+use Rattle.bookfile.specs.Replies.{head_reply, counted, file_reply, roomed, read_reply, over, read_into, Listed, Begins}
 use Rattle.derivation.specs.declared.Counts.{Counts}
 use Rattle.bookfile.proofs.Rules.{from_record, from_end, next, in_file, not_full, rule_is}
 
 -- a file by its first record
 module _ (file : List ℕ) where
-  pub file_refused : {number place : ℕ} → verdict (head_checks file) ≡ refused number place → refused number place ≡ file_reply file
-  unfolding file_reply book_reply after counted
-  file_refused e = rw e
+  pub file_refused : {number place : ℕ} → head_reply file ≡ refused number place → refused number place ≡ file_reply file
+  unfolding head_reply file_reply book_reply after counted
+  file_refused e = rw (refused_same (word file 2) (tt {0}) (head_checks file) e)
 
-  pub file_rest : verdict (head_checks file) ≡ answer tt → counted (word file 2) (rules_of file) ≡ file_reply file
+  -- the first record passes, and says the job count
+  passes_head : {jobs : ℕ} → head_reply file ≡ answer jobs → (verdict (head_checks file) ≡ answer tt) × (word file 2 ≡ jobs)
+  unfolding head_reply accepts
+  passes_head {jobs} e =
+      let p = passed (head_checks file) (word file 2) (ap accepts e) in
+      let a : answer (word file 2) ≡ answer jobs = sym (accepting (head_checks file) (word file 2) p) ∙ e in
+      (accepting (head_checks file) (tt {0}) p, cc)
+
+  pub file_rest : {jobs : ℕ} → head_reply file ≡ answer jobs → counted jobs (rules_from 1025 jobs file 0 4) ≡ file_reply file
   unfolding file_reply book_reply after
-  file_rest e = rw e
+  file_rest e = let p = passes_head e in rw (p.0, p.1)
 
-  pub head_long : verdict (head_checks file) ≡ answer tt → 4 ≤ length file
-  unfolding head_checks accepts
-  head_long e = ltb-false _ _ (passed (head_checks file) tt (ap accepts e)).1.1.1.0
+  pub head_long : {jobs : ℕ} → head_reply file ≡ answer jobs → 4 ≤ length file
+  unfolding head_reply head_checks accepts
+  head_long e = ltb-false _ _ (passed (head_checks file) (word file 2) (ap accepts e)).1.1.1.0
 
 -- a file that is not refused, from its reply
 module _ (file : List ℕ) {counts : Counts} (e : file_reply file ≡ answer counts) where
@@ -47,6 +55,10 @@ module _ (file : List ℕ) {counts : Counts} (e : file_reply file ≡ answer cou
   pub listed_counts : counts ≡ record { jobs = word file 2; rules = length (entries file) }
   unfolding file_reply book_reply
   listed_counts = (listed_all (verdict (head_checks file)) (rules_of file) e).2
+
+-- its rules are as many as it says
+pub listed_rules : (file : List ℕ) {counts : Counts} → file_reply file ≡ answer counts → counts.rules ≡ length (entries file)
+listed_rules file e = ap (λ (q : Counts). q.rules) (listed_counts file e)
 
 -- a file that is refused has no rules
 no_rules : (jobs : ℕ) (said : Reply (List Entry)) {number place : ℕ} → counted jobs said ≡ refused number place → entries_of said ≡ []
@@ -125,25 +137,25 @@ module _ (file : List ℕ) (number : ℕ) where
   unfolding record_of stretch
   record_here b = sym (ap (stretch file) b.here)
 
-  pub place_none : length (entries file) ≤ number → record { at = 0; size = 0 } ≡ place_of file number
+  pub place_none : length (entries file) ≤ number → record { start = 0; end = 0 } ≡ place_of file number
   unfolding place_of place_at
   place_none h = sym (ap (place_at file) (drop_of_length-le (entries file) {i = number} h))
 
-  pub place_refused : {n place : ℕ} → file_reply file ≡ refused n place → record { at = 0; size = 0 } ≡ place_of file number
+  pub place_refused : {n place : ℕ} → file_reply file ≡ refused n place → record { start = 0; end = 0 } ≡ place_of file number
   place_refused e = place_none (omega (arith, ap length (refused_none file e)))
 
-  pub place_here : {at : ℕ} → Begins file number at → record { at = at; size = size_at file at } ≡ place_of file number
+  pub place_here : {at : ℕ} → Begins file number at → record { start = at; end = at + size_at file at } ≡ place_of file number
   unfolding place_of place_at
   place_here b = sym (ap (place_at file) b.here)
 
   -- the record is that stretch of the file
-  pub record_place : take (place_of file number).size (drop (place_of file number).at file) ≡ record_of file number
+  pub record_place : take ((place_of file number).end - (place_of file number).start) (drop (place_of file number).start file) ≡ record_of file number
   unfolding record_of stretch place_of place_at
   record_place = go (drop number (entries file))
     where
-      go : (es : List Entry) → take (place_at file es).size (drop (place_at file es).at file) ≡ stretch file es
+      go : (es : List Entry) → take ((place_at file es).end - (place_at file es).start) (drop (place_at file es).start file) ≡ stretch file es
       go [] = refl
-      go (e ∷ es) = refl
+      go (e ∷ es) = ap (λ (n : ℕ). take n (drop e.at file)) (omega arith)
 
 -- the reader, by what examining the file said
 module _ (file : List ℕ) (room : ℕ) where
@@ -167,3 +179,12 @@ module _ (file : List ℕ) (room : ℕ) where
     pub written : {counts : Counts} → answer counts ≡ read_reply file room → over field (entries file) column ≡ read_into file room field column
     unfolding read_into lent
     written e = rw (← e)
+
+-- what the code says of a file, of the place of a rule's record, and of a file for a table
+pub ruleset files = (file_refused, file_rest, head_long)
+
+pub ruleset places = (listed, listed_rules, place_refused, place_none, place_here)
+
+pub ruleset readings = (listed, read_refused, read_short, read_room)
+
+pub ruleset walks = (walked_begins, walked_next)

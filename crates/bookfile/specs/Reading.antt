@@ -1,11 +1,11 @@
--- The file of a book, read record by record. Document 01: File of a book.
+-- The file of a book, read record by record.
 use Rattle.std.specs.Prelude.{Bool, cond, not, ◌||◌, List, [], ◌∷◌, ℕ, zero, suc, ◌+◌, ◌*◌, eqb, leb, ltb, length, take, drop, ℤ, pos, ◌*ℤ◌}
 use Rattle.std.specs.Int.Signed.{lt_z}
 use Rattle.maxatom.specs.Book.{minus}
 use Rattle.maxatom.specs.declared.Rule.{Rule}
 use Rattle.derivation.specs.Refusals.{Reply, refused, answer, Check, check, reply, verdict, jobs_check, job_outside}
 use Rattle.bookfile.specs.Numbers.{word, long, signed16, signed32}
-use Rattle.bookfile.specs.declared.reading.Stretch.{Stretch}
+use Rattle.std.specs.declared.ops.Range.{Range}
 
 -- the two-byte marks in ASCII
 abbrev pub BK : ℕ
@@ -112,12 +112,12 @@ entries_of (answer entries) = entries
 abbrev pub entries : List ℕ → List Entry
 entries file = entries_of (book_reply file)
 
--- where the first entry's record stands in the file: its first byte and its length; nowhere, and 0 bytes, where there is none
-unfoldable pub place_at : List ℕ → List Entry → Stretch
-place_at file [] = record { at = 0; size = 0 }
-place_at file (e ∷ more) = record { at = e.at; size = size_at file e.at }
+-- where the first entry's record stands in the file: from its first byte to the byte after its last; no bytes where there is none
+unfoldable pub place_at : List ℕ → List Entry → Range ℕ
+place_at file [] = record { start = 0; end = 0 }
+place_at file (e ∷ more) = record { start = e.at; end = e.at + size_at file e.at }
 
-unfoldable pub place_of : List ℕ → ℕ → Stretch
+unfoldable pub place_of : List ℕ → ℕ → Range ℕ
 place_of file number = place_at file (drop number (entries file))
 
 -- the stretch of the first entry's record

@@ -1,28 +1,21 @@
--- The replies of the calls, as document 01 puts them.
-use Rattle.std.specs.Prelude.{◌≡◌, cond, not, List, [], ◌∷◌, ◌++◌, map, ℕ, ◌+◌, ◌≤◌, eqb, leb, ltb, length, drop}
+-- The replies of the calls.
+use Rattle.std.specs.Prelude.{◌≡◌, List, [], ◌∷◌, ◌++◌, map, ℕ, ◌+◌, ◌≤◌, ltb, length, drop, Result, Ok, Err}
 use Rattle.maxatom.specs.declared.Rule.{Rule}
 use Rattle.derivation.specs.Refusals.{Reply, refused, answer, check, reply, verdict, lent}
 use Rattle.bookfile.specs.Numbers.{word}
-use Rattle.bookfile.specs.Reading.{BK, known, size_at, rule_at, head_checks, Entry, rules_of, book_reply, entries}
+use Rattle.bookfile.specs.Reading.{size_at, rule_at, head_checks, Entry, rules_of, book_reply, entries}
 use Rattle.derivation.specs.declared.Counts.{Counts}
-use Rattle.derivation.specs.declared.Read.{Read}
-use Rattle.bookfile.specs.declared.reading.Item.{Item}
+use Rattle.derivation.specs.declared.Fault.{Fault}
+use Rattle.derivation.specs.Faults.{number_of}
 
--- the number said of a mark, 0 where none is; `count` rules already read
-unfoldable pub full_fault : ℕ → ℕ
-full_fault count = cond (leb 1024 count) 5 0
+-- what is found at a byte: a value, or a fault whose place the byte is
+abbrev pub said_at : {A : Type 0} → ℕ → Result A Fault → Reply A
+said_at place (Ok a) = answer a
+said_at place (Err fault) = refused (number_of fault) place
 
-unfoldable pub mark_fault : ℕ → ℕ → ℕ
-mark_fault mark count = cond (not (known mark)) 2 (cond (eqb mark BK) 3 (full_fault count))
-
--- the number said of the first mark
-unfoldable pub first_fault : ℕ → ℕ
-first_fault mark = cond (not (known mark)) 2 (cond (not (eqb mark BK)) 3 0)
-
--- one record of a rule, at its byte
-unfoldable pub item_reply : ℕ → Item → Reply Rule
-item_reply at (Item.Taken r) = answer r
-item_reply at (Item.Refused number) = refused number at
+-- the first record says the job count
+unfoldable pub head_reply : List ℕ → Reply ℕ
+head_reply file = reply (head_checks file) (word file 2)
 
 unfoldable pub counted : ℕ → Reply (List Entry) → Reply Counts
 counted jobs (refused number place) = refused number place
@@ -48,11 +41,6 @@ over field entries places = map (λ (e : Entry). field e.rule) entries ++ drop (
 -- the lent table after the reader: nothing lent changes where it is refused, and places past the last rule are left alone
 unfoldable pub read_into : {A : Type 0} → List ℕ → ℕ → (Rule → A) → List A → List A
 read_into file room field places = lent (read_reply file room) places (over field (entries file) places)
-
--- how many rules the reader writes
-unfoldable pub count_of : Read → ℕ
-count_of (Read.Book counts) = counts.rules
-count_of (Read.Refused r) = 0
 
 -- a file that is not refused
 pub record Listed (file : List ℕ) : Type 0 where

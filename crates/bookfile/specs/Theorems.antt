@@ -42,7 +42,7 @@ abbrev pub ReadAccepted : Type 0
 ReadAccepted =
     (file : List ℕ) (counts : Counts) → file_reply file ≡ answer counts → Accepted counts.jobs (rules_of_file file) × (counts.rules ≡ length (rules_of_file file))
 
--- example B's file, 52 bytes, of document 01
+-- the file of example B, 52 bytes
 abbrev pub file_b : List ℕ
 file_b =
     66 ∷ 75 ∷ 4 ∷ 0
@@ -52,7 +52,7 @@ file_b =
     ∷ 82 ∷ 85 ∷ 1 ∷ 0 ∷ 0 ∷ 0 ∷ 3 ∷ 0 ∷ 25 ∷ 0 ∷ 0 ∷ 0
     ∷ []
 
--- files that document 01 names
+-- what these files say
 pub record FileExamples : Type 0 where
   pub counts_b : file_reply file_b ≡ answer (record { jobs = 4; rules = 4 })
   pub rules_b : rules_of_file file_b ≡ example_b

@@ -3,5 +3,6 @@
 #![tactic(auto)]
 
 mod bytes;
+mod mark;
 pub mod reading;
 pub mod writing;

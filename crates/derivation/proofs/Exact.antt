@@ -75,7 +75,7 @@ run_facts {jobs = jobs} {rules = rules} a =
       plan_steps = λ e. rw (run a).steps_is at (with_plan a (reached a) _ (plan_is a e)).bound;
       none_steps = λ job e. rw ((run a).steps_is, room_zero jobs rules) at (longest (set_of a) (reached a));
       fallen = (run a).fell_at;
-      same_times_lem = (run a).times_is;
+      times_are = (run a).times_is;
       same_steps = (run a).steps_is;
     }
 

@@ -1,6 +1,7 @@
 -- The bench run's call: what it says and leaves where it is refused and where it isn't, and what its answer means. Assumes nothing.
 use mathlib.Core.Path.{◌≡◌, sym, ap, ◌∙◌}
 use mathlib.Core.List.{List}
+use Rattle.std.specs.Prelude.{Result, Ok, Err}
 use Prim.Native.Nat.{ℕ}
 use lib.IntN.{ℤ}
 use Rattle.maxatom.specs.Book.{Accepted}
@@ -8,10 +9,10 @@ use Rattle.maxatom.specs.declared.Rule.{Rule}
 use Rattle.derivation.specs.Refusals.{Reply, refused, answer, accepts, lent, verdict, times_checks}
 use Rattle.derivation.specs.Run.{planned, fell, solve}
 use Rattle.derivation.specs.Calls.{Answer, answer_of, run_reply, run_times}
-use Rattle.derivation.specs.Replies.{solved_reply, Meaning, SolvedAs, SolvedCall}
+use Rattle.derivation.specs.Faults.{number_of}
+use Rattle.derivation.specs.Replies.{solved_reply, solved_answer, Meaning, SolvedAs, SolvedCall}
 use Rattle.derivation.specs.declared.Refusal.{Refusal}
 use Rattle.derivation.specs.declared.Solved.{Solved}
-use Rattle.derivation.specs.declared.Solved.TheVariants.{Refused}
 use Rattle.derivation.proofs.Checks.{accepting, passed, refused_same, answered_same, times_accepted}
 use Rattle.derivation.proofs.Exact.{demand_2, run_facts}
 
@@ -20,19 +21,19 @@ module _ (jobs : ℕ) (rules : List Rule) (buffer : List ℤ) where
   unfolding run_times
   lent_by e = ap (λ (said : Reply Answer). lent said buffer (solve jobs rules).times) e
 
-  run_refused : (q : Refusal) → verdict (times_checks jobs rules buffer) ≡ refused q.number q.place →
-      (solved_reply (Refused q) ≡ run_reply jobs rules buffer) × (buffer ≡ run_times jobs rules buffer)
-  unfolding run_reply solved_reply lent
+  run_refused : (q : Refusal) → verdict (times_checks jobs rules buffer) ≡ refused (number_of q.fault) q.place →
+      (solved_reply (Err q) ≡ run_reply jobs rules buffer) × (buffer ≡ run_times jobs rules buffer)
+  unfolding run_reply lent
   run_refused q e =
       let r = refused_same tt (answer_of (solve jobs rules)) (times_checks jobs rules buffer) e in
       (sym r, sym (lent_by r))
 
   run_answered : verdict (times_checks jobs rules buffer) ≡ answer tt → (r : Solved) (t : List ℤ) → SolvedAs (solve jobs rules) r t →
-      (solved_reply r ≡ run_reply jobs rules buffer) × (t ≡ run_times jobs rules buffer)
+      (solved_reply (Ok r) ≡ run_reply jobs rules buffer) × (t ≡ run_times jobs rules buffer)
   unfolding run_reply lent
   run_answered e r t s =
       let q = answered_same tt (answer_of (solve jobs rules)) (times_checks jobs rules buffer) e in
-      (s.said ∙ sym q, s.left ∙ sym (lent_by q))
+      (ap answer s.said ∙ sym q, s.left ∙ sym (lent_by q))
 
   same_answer : {a b : Answer} → answer a ≡ answer b → a ≡ b
   same_answer e = cc
@@ -46,8 +47,7 @@ module _ (jobs : ℕ) (rules : List Rule) (buffer : List ℤ) where
       ((times_accepted (answer_of (solve jobs rules)) jobs rules buffer whole).0, same_answer (sym whole ∙ e), lent_by whole)
 
   -- so the equations say what plan and none mean
-  means : (r : Solved) (t : List ℤ) → solved_reply r ≡ run_reply jobs rules buffer → t ≡ run_times jobs rules buffer → Meaning jobs rules r t
-  unfolding solved_reply
+  means : (r : Result Solved Refusal) (t : List ℤ) → solved_reply r ≡ run_reply jobs rules buffer → t ≡ run_times jobs rules buffer → Meaning jobs rules r t
   means r t said left =
       record {
         plan = λ n x.
@@ -60,11 +60,11 @@ module _ (jobs : ℕ) (rules : List Rule) (buffer : List ℤ) where
             ((demand_2 jobs rules a).none_iff.0 (job, end), rw (ap (λ (v : Answer). v.steps) w) at ((run_facts a).none_steps job end));
       }
 
-  by_equations : (r : Solved) (t : List ℤ) → (solved_reply r ≡ run_reply jobs rules buffer) × (t ≡ run_times jobs rules buffer) → SolvedCall jobs rules buffer r t
+  by_equations : (r : Result Solved Refusal) (t : List ℤ) → (solved_reply r ≡ run_reply jobs rules buffer) × (t ≡ run_times jobs rules buffer) → SolvedCall jobs rules buffer r t
   by_equations r t q = record { said = q.0; left = q.1; means = means r t q.0 q.1 }
 
-  pub call_refused : (q : Refusal) → verdict (times_checks jobs rules buffer) ≡ refused q.number q.place → SolvedCall jobs rules buffer (Refused q) buffer
-  call_refused q e = by_equations (Refused q) buffer (run_refused q e)
+  pub call_refused : (q : Refusal) → verdict (times_checks jobs rules buffer) ≡ refused (number_of q.fault) q.place → SolvedCall jobs rules buffer (Err q) buffer
+  call_refused q e = by_equations (Err q) buffer (run_refused q e)
 
-  pub call_answered : verdict (times_checks jobs rules buffer) ≡ answer tt → (r : Solved) (t : List ℤ) → SolvedAs (solve jobs rules) r t → SolvedCall jobs rules buffer r t
-  call_answered e r t s = by_equations r t (run_answered e r t s)
+  pub call_answered : verdict (times_checks jobs rules buffer) ≡ answer tt → (r : Solved) (t : List ℤ) → SolvedAs (solve jobs rules) r t → SolvedCall jobs rules buffer (Ok r) t
+  call_answered e r t s = by_equations (Ok r) t (run_answered e r t s)

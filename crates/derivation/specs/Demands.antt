@@ -77,7 +77,7 @@ pub record RunFacts (jobs : ℕ) (rules : List Rule) : Type 0 where
   pub plan_steps : (solve jobs rules).end ≡ planned → (solve jobs rules).steps ≤ jobs * total rules
   pub none_steps : (job : ℕ) → (solve jobs rules).end ≡ fell job → (solve jobs rules).steps ≤ jobs * total rules + 1
   pub fallen : (job : ℕ) → (solve jobs rules).end ≡ fell job → (job < jobs) × (time_at (solve jobs rules).times job <ℤ floor rules)
-  pub same_times_lem : (finally jobs rules (rounds (pass_bound jobs rules) (length rules))).times ≡ (solve jobs rules).times
+  pub times_are : (finally jobs rules (rounds (pass_bound jobs rules) (length rules))).times ≡ (solve jobs rules).times
   pub same_steps : (finally jobs rules (rounds (pass_bound jobs rules) (length rules))).tally.steps ≡ (solve jobs rules).steps
 
 -- what document 01 says of plans

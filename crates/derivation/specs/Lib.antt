@@ -3,6 +3,7 @@ pub mod Step
 pub mod Play
 pub mod Run
 pub mod Calls
+pub mod Faults
 pub mod Replies
 pub mod Demands
 pub mod Examples

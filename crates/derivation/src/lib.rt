@@ -2,62 +2,95 @@
 
 #![tactic(auto)]
 
+ghost use Rattle.std.specs.Prelude.{◌≡◌};
+ghost use Rattle.derivation.specs.Faults.{number_of, refusal_for};
+
 // The tally: steps taken, and minutes lowered in all.
 #[repr(C)]
-#[derive(Clone, Copy)]
+#[derive(Clone, Copy, PartialEq, Eq)]
 pub struct Tally {
     pub steps: u64,
     pub minutes: u64,
 }
 
-// A refusal: document 01's number, and its place.
-#[derive(Clone, Copy)]
+// Why a call is refused: a condition of the lists of refusals, each of which has a number.
+#[derive(Clone, Copy, PartialEq, Eq)]
+pub enum Fault {
+    // The file ends inside a record or before its first one (1).
+    FileEnds,
+    UnknownMark,
+    // The first record is no book's, or a later one is (3).
+    BookRecord,
+    // The job count is outside 1 to 256 (4).
+    JobCount,
+    // There is a rule past the 1,024th (5).
+    RuleCount,
+    // A rule names a job of number n or more (6).
+    JobNumber,
+    // An offset, or hours, outside the bounds (7).
+    Offset,
+    // What is lent has the wrong length (21).
+    Length,
+    // The board is not legal (22).
+    IllegalBoard,
+    // The tally does not fit the board (23).
+    TallyDiffers,
+    NoSuchRule,
+    // The board shows none (25).
+    ShowsNone,
+    // The rule is kept (26).
+    Satisfied,
+}
+
+impl From<Fault> for u8 {
+    ghost from_gives = { λ fault n. n ≡ number_of fault };
+
+    fn from(fault: Fault) -> u8 {
+        match fault {
+            Fault::FileEnds => 1,
+            Fault::UnknownMark => 2,
+            Fault::BookRecord => 3,
+            Fault::JobCount => 4,
+            Fault::RuleCount => 5,
+            Fault::JobNumber => 6,
+            Fault::Offset => 7,
+            Fault::Length => 21,
+            Fault::IllegalBoard => 22,
+            Fault::TallyDiffers => 23,
+            Fault::NoSuchRule => 24,
+            Fault::ShowsNone => 25,
+            Fault::Satisfied => 26,
+        }
+    }
+}
+
+// A refusal: why, and its place.
+#[derive(Clone, Copy, PartialEq, Eq)]
 pub struct Refusal {
-    pub number: u8,
+    pub fault: Fault,
     pub place: usize,
 }
 
-// It was done, or the refusal: the fresh board, the hand step, the plan writer, and each list of checks.
-#[derive(Clone, Copy)]
-pub enum Outcome {
-    Done,
-    Refused(Refusal),
+// A refusal whose place is 0.
+impl From<Fault> for Refusal {
+    ghost from_gives = { λ fault r. r ≡ refusal_for fault };
+
+    fn from(fault: Fault) -> Refusal {
+        Refusal { fault, place: 0 }
+    }
 }
 
 // The job count and the rule count of a book.
-#[derive(Clone, Copy)]
+#[derive(Clone, Copy, PartialEq, Eq)]
 pub struct Counts {
     pub jobs: usize,
     pub rules: usize,
 }
 
-// The reader: a book, or the refusal.
-#[derive(Clone, Copy)]
-pub enum Read {
-    Book(Counts),
-    Refused(Refusal),
-}
-
-// The model check (kept test): every rule is satisfied, or the number of the first violated one.
-#[derive(Clone, Copy)]
-pub enum FirstViolated {
-    Nothing,
-    At(usize),
-    Refused(Refusal),
-}
-
-// The tight test.
-#[derive(Clone, Copy)]
-pub enum Tightness {
-    Tight,
-    Slack,
-    Refused(Refusal),
-}
-
-// The bench run: a plan with the steps of the run, or none with the steps and the job that fell.
-#[derive(Clone, Copy)]
+// The bench run of a book that is not refused: a plan with the steps of the run, or none with the steps and the job that fell. It is no
+// `Result`, since none is an answer as a plan is, and no failure.
+#[derive(Clone, Copy, PartialEq, Eq)]
 pub enum Solved {
     Plan(u64),
     None(u64, u16),
-    Refused(Refusal),
 }

@@ -6,9 +6,11 @@ use Prim.Native.Nat.{ℕ, suc, ◌+◌, ◌-◌, ◌*◌, ◌<◌, ◌≤◌, �
 use native.Mathlib.Nat.{add-mul, mul-pos, mul-le-mul}
 use native.Mathlib.Decide.{dec_lt}
 use native.Mathlib.Omega.{arith}
-use lib.ListN.{length, get_or, set, length-set, get_or-eq_default}
-use lib.Seq.{ext_get_or, get_or-set_same}
+use lib.ListN.{length, get_or, set, drop, length-set, get_or-eq_default, drop_of_length-le}
+use lib.Seq.{get_or-set_same}
+use Rattle.std.proofs.lemmas.List.{drop_more}
 use lib.IntN.{ℤ, pos, negsuc, ◌+ℤ◌}
+use Rattle.std.specs.Prelude.{Option, Some, None, MatchOption, unwrap_or}
 use lib.Signed.{◌≤ℤ◌, ◌<ℤ◌, lt_z}
 use borrow.Author.Count.{below_more}
 use mir.Syntax.{w32}
@@ -22,13 +24,11 @@ use Rattle.maxatom.proofs.Choose.{cond_yes, cond_no}
 use Rattle.maxatom.proofs.Integers.{up, dn, le_read, le_make, eq_make, add_parts, add_mono, max_under, ≤ℤ-trans}
 use Rattle.maxatom.proofs.Lists.{set_time}
 use Rattle.maxatom.proofs.Rules.{left_same, keeps}
-use Rattle.maxatom.proofs.Jumps.{counted, joined, Apart, Aparts, none, next}
+use Rattle.maxatom.proofs.Jumps.{joined, Apart, Aparts, none, next}
 use Rattle.maxatom.proofs.Lines.{jump_along, jump_ends}
 use Rattle.maxatom.proofs.Parts.{forget}
-use Rattle.table.specs.Columns.{rule_of, rules_from, rules_of}
-use Rattle.table.proofs.Rows.{rows_next, rows_end, rows_length, rows_at}
-use Rattle.solver.specs.Rules.{Named, NamedAll}
-use Rattle.jump.specs.Leaps.{with_one_arm, Steppable, BothSatisfied, by_first, by_second, BothLow, Locked, Rounded, Walked, Sized, Spread, Dropped, Passed, Leapt}
+use Rattle.derivation.specs.Step.{no_rule, rule_at}
+use Rattle.jump.specs.Leaps.{with_one_arm, Steppable, BothSatisfied, by_first, by_second, BothLow, Rounded, Spread, Dropped, Passed, Leapt}
 
 -- between two numbers of 32 bits
 pub fits_between : {f z t : ℤ} → SFits w32 f → SFits w32 t → f ≤ℤ z → z ≤ℤ t → SFits w32 z
@@ -39,9 +39,6 @@ fits_between {z = negsuc n} p q l u = fits_make w32 (omega arith) (omega (arith,
 pub record Filled (P : ℕ → ℤ → Type 0) (size : ℕ) (times : List ℤ) (i : ℕ) : Type 0 where
   pub size_is : length times ≡ size
   pub each : (job : ℕ) → job < i → P job (time_at times job)
-
-pub filled_none : (P : ℕ → ℤ → Type 0) (size : ℕ) (times : List ℤ) → length times ≡ size → Filled P size times 0
-filled_none P size times e = record { size_is = e; each = λ job h. absurd (omega arith) }
 
 pub filled_next : {P : ℕ → ℤ → Type 0} {size : ℕ} {times : List ℤ} {i : ℕ} → Filled P size times i → (v : ℤ) → P i v → i < size → Filled P size (set times i v) (i + 1)
 filled_next {P = P} {size = size} {times = times} {i = i} p v holds h =
@@ -56,20 +53,6 @@ filled_next {P = P} {size = size} {times = times} {i = i} p v holds h =
             let e : i ≡ job = omega arith in
             subst (λ (n : ℕ). P n (time_at (set times i v) n)) e
             (rw (get_or-set_same times i v (pos 0) (let n = p.size_is in omega arith)) holds)
-
--- a copy
-pub copied_all : {from to : List ℤ} {i : ℕ} → Filled (λ job v. v ≡ time_at from job) (length from) to i → length from ≤ i → to ≡ from
-copied_all {from = from} {to = to} p h =
-    ext_get_or (pos 0) to from p.size_is (λ job q. p.each job (let n = p.size_is in omega arith))
-
-pub named_at : (xs ys zs : List ℕ) (ks : List ℤ) (count i : ℕ) {a b : ℕ} → NamedAll (rules_of xs ys zs ks count) a b → i < count →
-    Named (rule_of xs ys zs ks i) a × Named (rule_of xs ys zs ks i) b
-named_at xs ys zs ks count i {a = a} {b = b} n h =
-    let at = rows_at xs ys zs ks count i h in
-    let l : i < length (rules_of xs ys zs ks count) = omega (arith, rows_length xs ys zs ks 0 count) in (
-      subst (λ (r : Rule). Named r a) at (n.in_near i l),
-      subst (λ (r : Rule). Named r b) at (n.in_far i l),
-    )
 
 -- the larger arm is the same at both
 same_arm : (r : Rule) (near far : List ℤ) → lt_z (time_at near r.x) (time_at near r.y) ≡ lt_z (time_at far r.x) (time_at far r.y) → SameArm near far (clause_of r)
@@ -110,47 +93,36 @@ module _ (r : Rule) (t : List ℤ) where
   step_is e = e ∙ ap (λ (v : ℤ). set t r.z v) (sym (left_same r t))
 
 -- i rules of a pass are passed, with s steps: what is left of it leads from the state as it is to where the pass leads from the first
-pub record Going (xs ys zs : List ℕ) (ks : List ℤ) (count : ℕ) {S : Type 0} (W : List Clause → S → S → ℕ → Type 0) (first now : S) (s i : ℕ) : Type 0 where
-  pub low : i ≤ count
+pub record Going (rules : List Rule) {S : Type 0} (W : List Clause → S → S → ℕ → Type 0) (first now : S) (s i : ℕ) : Type 0 where
   pub small : s ≤ i
-  pub rest : (end : S) (k : ℕ) → W (clauses_of (rules_from xs ys zs ks i (count - i))) now end k → W (clauses_of (rules_of xs ys zs ks count)) first end (k + s)
+  pub rest : (end : S) (k : ℕ) → W (clauses_of (drop i rules)) now end k → W (clauses_of rules) first end (k + s)
 
-going_none : (xs ys zs : List ℕ) (ks : List ℤ) (count : ℕ) {S : Type 0} (W : List Clause → S → S → ℕ → Type 0) (first : S) → Going xs ys zs ks count W first first 0 0
-going_none xs ys zs ks count W first =
-    record {
-      low = omega arith;
-      small = omega arith;
-      rest = λ end k h. subst (λ (m : ℕ). W (clauses_of (rules_of xs ys zs ks count)) first end m) (omega arith)
-          (subst (λ (m : ℕ). W (clauses_of (rules_from xs ys zs ks 0 m)) first end k) (omega arith) h);
-    }
-
-module _ {xs ys zs : List ℕ} {ks : List ℤ} {count : ℕ} {S : Type 0} {W : List Clause → S → S → ℕ → Type 0} {first now : S} {s i : ℕ} (g : Going xs ys zs ks count W first now s i) where
+module _ {rules : List Rule} {S : Type 0} {W : List Clause → S → S → ℕ → Type 0} {first now : S} {s i : ℕ} (g : Going rules W first now s i) where
   abbrev head : Clause
-  head = clause_of (rule_of xs ys zs ks i)
+  head = clause_of (rule_at rules i)
 
   abbrev tail : List Clause
-  tail = clauses_of (rules_from xs ys zs ks (i + 1) (count - (i + 1)))
+  tail = clauses_of (drop (i + 1) rules)
 
-  headed : i < count → {end : S} {k : ℕ} → W (head ∷ tail) now end k → W (clauses_of (rules_from xs ys zs ks i (count - i))) now end k
+  headed : i < length rules → {end : S} {k : ℕ} → W (head ∷ tail) now end k → W (clauses_of (drop i rules)) now end k
   unfolding clauses_of
-  headed h {end = end} {k = k} w = subst (λ (rs : List Rule). W (clauses_of rs) now end k) (sym (rows_next xs ys zs ks i count h)) w
+  headed h {end = end} {k = k} w = subst (λ (rs : List Rule). W (clauses_of rs) now end k) (sym (drop_more rules i no_rule h)) w
 
-  going_kept : i < count → ((end : S) (k : ℕ) → W tail now end k → W (head ∷ tail) now end k) → Going xs ys zs ks count W first now s (i + 1)
-  going_kept h keeping = record { low = omega arith; small = omega (arith, g.small); rest = λ end k w. g.rest end k (headed h (keeping end k w)) }
+  going_kept : i < length rules → ((end : S) (k : ℕ) → W tail now end k → W (head ∷ tail) now end k) → Going rules W first now s (i + 1)
+  going_kept h keeping = record { small = omega (arith, g.small); rest = λ end k w. g.rest end k (headed h (keeping end k w)) }
 
-  going_low : i < count → {next : S} → ((end : S) (k : ℕ) → W tail next end k → W (head ∷ tail) now end (k + 1)) → Going xs ys zs ks count W first next (s + 1) (i + 1)
+  going_low : i < length rules → {next : S} → ((end : S) (k : ℕ) → W tail next end k → W (head ∷ tail) now end (k + 1)) → Going rules W first next (s + 1) (i + 1)
   going_low h lowering =
       record {
-        low = omega arith;
         small = omega (arith, g.small);
-        rest = λ end k w. subst (λ (m : ℕ). W (clauses_of (rules_of xs ys zs ks count)) first end m) (omega arith) (g.rest end (k + 1) (headed h (lowering end k w)));
+        rest = λ end k w. subst (λ (m : ℕ). W (clauses_of rules) first end m) (omega arith) (g.rest end (k + 1) (headed h (lowering end k w)));
       }
 
-  going_all : count ≤ i → W [] now now 0 → W (clauses_of (rules_of xs ys zs ks count)) first now s
+  going_all : length rules ≤ i → W [] now now 0 → W (clauses_of rules) first now s
   unfolding clauses_of
   going_all h ending =
-      subst (λ (m : ℕ). W (clauses_of (rules_of xs ys zs ks count)) first now m) (omega arith)
-      (g.rest now 0 (subst (λ (rs : List Rule). W (clauses_of rs) now now 0) (sym (rows_end xs ys zs ks i count h)) ending))
+      subst (λ (m : ℕ). W (clauses_of rules) first now m) (omega arith)
+      (g.rest now 0 (subst (λ (rs : List Rule). W (clauses_of rs) now now 0) (sym (drop_of_length-le rules h)) ending))
 
 -- in lockstep, near and far
 abbrev Pair : Type 0
@@ -159,19 +131,16 @@ Pair = List ℤ × List ℤ
 abbrev InStep : ℤ → List Clause → Pair → Pair → ℕ → Type 0
 InStep f cs a b k = Lockstep f cs a.0 a.1 b.0 b.1 k
 
-pub record Locking (xs ys zs : List ℕ) (ks : List ℤ) (count : ℕ) (f : ℤ) (near₀ far₀ near far : List ℤ) (s i : ℕ) : Type 0 where
+pub record Locking (rules : List Rule) (f : ℤ) (near₀ far₀ near far : List ℤ) (s i : ℕ) : Type 0 where
   pub near_size : length near ≡ length near₀
   pub far_size : length far ≡ length far₀
-  pub going : Going xs ys zs ks count (InStep f) (near₀, far₀) (near, far) s i
+  pub going : Going rules (InStep f) (near₀, far₀) (near, far) s i
 
-pub locking_none : (xs ys zs : List ℕ) (ks : List ℤ) (count : ℕ) (f : ℤ) (near far : List ℤ) → Locking xs ys zs ks count f near far near far 0 0
-locking_none xs ys zs ks count f near far = record { near_size = refl; far_size = refl; going = going_none xs ys zs ks count (InStep f) (near, far) }
-
-module _ {xs ys zs : List ℕ} {ks : List ℤ} {count : ℕ} {f : ℤ} {near₀ far₀ near far : List ℤ} {s i : ℕ} (g : Locking xs ys zs ks count f near₀ far₀ near far s i) where
+module _ {rules : List Rule} {f : ℤ} {near₀ far₀ near far : List ℤ} {s i : ℕ} (g : Locking rules f near₀ far₀ near far s i) where
   abbrev rule : Rule
-  rule = rule_of xs ys zs ks i
+  rule = rule_at rules i
 
-  pub locking_kept : i < count → BothSatisfied rule near far → Locking xs ys zs ks count f near₀ far₀ near far s (i + 1)
+  pub locking_kept : i < length rules → BothSatisfied rule near far → Locking rules f near₀ far₀ near far s (i + 1)
   locking_kept h b =
       record {
         near_size = g.near_size;
@@ -179,89 +148,73 @@ module _ {xs ys zs : List ℕ} {ks : List ℤ} {count : ℕ} {f : ℤ} {near₀ 
         going = going_kept g.going h (λ end k l. keep (same_keeper rule near far b) l);
       }
 
-  pub locking_low : i < count → BothLow rule f near far → {n f₁ : List ℤ} → n ≡ set near rule.z (left_side rule near) → f₁ ≡ set far rule.z (left_side rule far) →
-      Locking xs ys zs ks count f near₀ far₀ n f₁ (s + 1) (i + 1)
+  pub locking_low : i < length rules → BothLow rule f near far → {n f₁ : List ℤ} → n ≡ set near rule.z (left_side rule near) → f₁ ≡ set far rule.z (left_side rule far) →
+      Locking rules f near₀ far₀ n f₁ (s + 1) (i + 1)
   locking_low h b {n = n} {f₁ = f₁} p q =
       record {
         near_size = ap length p ∙ (length-set near rule.z (left_side rule near) ∙ g.near_size);
         far_size = ap length q ∙ (length-set far rule.z (left_side rule far) ∙ g.far_size);
         going = going_low g.going h {next = (n, f₁)}
             (λ end k l. lower (same_arm rule near far b.same) (step_below rule near b.near_low) (step_below rule far b.far_low) (step_above rule near b.near_low) (step_above rule far b.far_low)
-            (subst (λ (x : List ℤ). Lockstep f (clauses_of (rules_from xs ys zs ks (i + 1) (count - (i + 1)))) x (stepped far (clause_of rule)) end.0 end.1 k) (step_is rule near p)
-            (subst (λ (x : List ℤ). Lockstep f (clauses_of (rules_from xs ys zs ks (i + 1) (count - (i + 1)))) n x end.0 end.1 k) (step_is rule far q) l)));
+            (subst (λ (x : List ℤ). Lockstep f (clauses_of (drop (i + 1) rules)) x (stepped far (clause_of rule)) end.0 end.1 k) (step_is rule near p)
+            (subst (λ (x : List ℤ). Lockstep f (clauses_of (drop (i + 1) rules)) n x end.0 end.1 k) (step_is rule far q) l)));
       }
 
-  pub locking_all : count ≤ i → Locked (rules_of xs ys zs ks count) f near₀ far₀ near far s
-  locking_all h = record { locked = λ some. going_all g.going h done }
+  pub locking_all : length rules ≤ i → Lockstep f (clauses_of rules) near₀ far₀ near far s
+  locking_all h = going_all g.going h done
 
 -- and at one assignment
-pub record Walking (xs ys zs : List ℕ) (ks : List ℤ) (count : ℕ) (f : ℤ) (times₀ times : List ℤ) (s i : ℕ) : Type 0 where
+pub record Walking (rules : List Rule) (f : ℤ) (times₀ times : List ℤ) (s i : ℕ) : Type 0 where
   pub size : length times ≡ length times₀
-  pub going : Going xs ys zs ks count (Walk f) times₀ times s i
+  pub going : Going rules (Walk f) times₀ times s i
 
-pub walking_none : (xs ys zs : List ℕ) (ks : List ℤ) (count : ℕ) (f : ℤ) (times : List ℤ) → Walking xs ys zs ks count f times times 0 0
-walking_none xs ys zs ks count f times = record { size = refl; going = going_none xs ys zs ks count (Walk f) times }
-
-module _ {xs ys zs : List ℕ} {ks : List ℤ} {count : ℕ} {f : ℤ} {times₀ times : List ℤ} {s i : ℕ} (g : Walking xs ys zs ks count f times₀ times s i) where
+module _ {rules : List Rule} {f : ℤ} {times₀ times : List ℤ} {s i : ℕ} (g : Walking rules f times₀ times s i) where
   abbrev walked : Rule
-  walked = rule_of xs ys zs ks i
+  walked = rule_at rules i
 
-  pub walking_kept : i < count → satisfied walked times ≡ true → Walking xs ys zs ks count f times₀ times s (i + 1)
+  pub walking_kept : i < length rules → satisfied walked times ≡ true → Walking rules f times₀ times s (i + 1)
   walking_kept h kept = record { size = g.size; going = going_kept g.going h (λ end k l. keep (keeps walked times kept) l) }
 
-  pub walking_low : i < count → Steppable walked f times → {t : List ℤ} → t ≡ set times walked.z (left_side walked times) → Walking xs ys zs ks count f times₀ t (s + 1) (i + 1)
+  pub walking_low : i < length rules → Steppable walked f times → {t : List ℤ} → t ≡ set times walked.z (left_side walked times) → Walking rules f times₀ t (s + 1) (i + 1)
   walking_low h b {t = t} p =
       record {
         size = ap length p ∙ (length-set times walked.z (left_side walked times) ∙ g.size);
-        going = going_low g.going h {next = t} (λ end k l. lower (step_below walked times b) (step_above walked times b) (subst (λ (x : List ℤ). Walk f (clauses_of (rules_from xs ys zs ks (i + 1) (count - (i + 1)))) x end k) (step_is walked times p) l));
+        going = going_low g.going h {next = t} (λ end k l. lower (step_below walked times b) (step_above walked times b) (subst (λ (x : List ℤ). Walk f (clauses_of (drop (i + 1) rules)) x end k) (step_is walked times p) l));
       }
 
-  pub walking_all : count ≤ i → Walked (rules_of xs ys zs ks count) f times₀ times false s
-  walking_all h = record { walk = λ e. going_all g.going h done }
-
-  pub walking_few : s ≤ count
-  walking_few = omega (arith, g.going.low, g.going.small)
+  pub walking_all : length rules ≤ i → Walk f (clauses_of rules) times₀ times s
+  walking_all h = going_all g.going h done
 
 -- passes in lockstep so far
-pub record Rounding (rules : List Rule) (f : ℤ) (near₀ far₀ near far : List ℤ) (s passes i : ℕ) : Type 0 where
+pub record Rounding (rules : List Rule) (f : ℤ) (near₀ far₀ near far : List ℤ) (s i : ℕ) : Type 0 where
   pub few : s < 2 ^ 33
-  pub low : i ≤ passes
+  pub some : i ≤ s
   pub near_size : length near ≡ length near₀
   pub far_size : length far ≡ length far₀
   pub rounds : Rounds f (clauses_of rules) near₀ far₀ near far i s
 
-pub rounding_none : (rules : List Rule) (f : ℤ) (near far : List ℤ) (passes : ℕ) → Rounding rules f near far near far 0 passes 0
-rounding_none rules f near far passes = record { few = omega arith; low = omega arith; near_size = refl; far_size = refl; rounds = start }
+pub rounding_none : (rules : List Rule) (f : ℤ) (near far : List ℤ) → Rounding rules f near far near far 0 0
+rounding_none rules f near far = record { few = omega arith; some = omega arith; near_size = refl; far_size = refl; rounds = start }
 
-module _ {rules : List Rule} {f : ℤ} {near₀ far₀ near far : List ℤ} {s passes i : ℕ} (g : Rounding rules f near₀ far₀ near far s passes i) where
-  pub rounding_next : {near' far' : List ℤ} {k : ℕ} → i < passes → Locked rules f near far near' far' k →
-      length near' ≡ length near → length far' ≡ length far → 1 ≤ k → k < 2 ^ 32 → s < 2 ^ 32 → Rounding rules f near₀ far₀ near' far' (s + k) passes (i + 1)
-  rounding_next h l n m some small few =
-      record { few = omega arith; low = omega arith; near_size = n ∙ g.near_size; far_size = m ∙ g.far_size; rounds = round g.rounds (l.locked some) some }
-
-  pub rounding_all : passes ≤ i → Rounded rules f near₀ far₀ near far passes s
-  rounding_all h =
-      let e : i ≡ passes = omega (arith, g.low) in
-      record { few = g.few; rounds = λ some. subst (λ (n : ℕ). Rounds f (clauses_of rules) near₀ far₀ near far n s) e g.rounds }
+module _ {rules : List Rule} {f : ℤ} {near₀ far₀ near far : List ℤ} {s i : ℕ} (g : Rounding rules f near₀ far₀ near far s i) where
+  pub rounding_next : {near' far' : List ℤ} {k : ℕ} → Lockstep f (clauses_of rules) near far near' far' k →
+      length near' ≡ length near → length far' ≡ length far → 1 ≤ k → k < 2 ^ 32 → s < 2 ^ 32 → Rounding rules f near₀ far₀ near' far' (s + k) (i + 1)
+  rounding_next l n m more small few =
+      record { few = omega arith; some = omega (arith, g.some); near_size = n ∙ g.near_size; far_size = m ∙ g.far_size; rounds = round g.rounds l more }
 
 -- plain passes so far
-pub record Repeating (rules : List Rule) (f : ℤ) (times₀ times : List ℤ) (s passes i : ℕ) : Type 0 where
+pub record Repeating (rules : List Rule) (f : ℤ) (times₀ times : List ℤ) (s i : ℕ) : Type 0 where
   pub few : s < 2 ^ 63
-  pub low : i ≤ passes
   pub size : length times ≡ length times₀
   pub passing : Passing f (clauses_of rules) 1 times₀ times i s
 
-pub repeating_none : (rules : List Rule) (f : ℤ) (times : List ℤ) (passes : ℕ) → Repeating rules f times times 0 passes 0
-repeating_none rules f times passes = record { few = omega arith; low = omega arith; size = refl; passing = start }
+pub repeating_none : (rules : List Rule) (f : ℤ) (times : List ℤ) → Repeating rules f times times 0 0
+repeating_none rules f times = record { few = omega arith; size = refl; passing = start }
 
-module _ {rules : List Rule} {f : ℤ} {times₀ times : List ℤ} {s passes i : ℕ} (g : Repeating rules f times₀ times s passes i) where
-  pub repeating_next : {times' : List ℤ} {fell : Bool} {k : ℕ} → i < passes → Walked rules f times times' fell k → length times' ≡ length times → fell ≡ false → 1 ≤ k → s + k < 2 ^ 63 →
-      Repeating rules f times₀ times' (s + k) passes (i + 1)
-  repeating_next h w n stands some few =
-      record { few = few; low = omega arith; size = n ∙ g.size; passing = round g.passing (w.walk stands) some }
-
-  pub repeating_all : passes ≤ i → Passing f (clauses_of rules) 1 times₀ times passes s
-  repeating_all h = counted (omega (arith, g.low)) refl g.passing
+module _ {rules : List Rule} {f : ℤ} {times₀ times : List ℤ} {s i : ℕ} (g : Repeating rules f times₀ times s i) where
+  pub repeating_next : {times' : List ℤ} {k : ℕ} → Walk f (clauses_of rules) times times' k → length times' ≡ length times → 1 ≤ k → s + k < 2 ^ 63 →
+      Repeating rules f times₀ times' (s + k) (i + 1)
+  repeating_next w n some few = record { few = few; size = n ∙ g.size; passing = round g.passing w some }
 
 -- the test of a jump, job by job
 pub later : {b : ℤ} (c : ℤ) (m : ℕ) → b ≡ c +ℤ pos m → up b + dn c ≡ up c + m + dn b
@@ -295,9 +248,6 @@ pub passed_none : (rules : List Rule) (f : ℤ) (b : List ℤ) → Passed rules 
 passed_none rules f b = record { passes = 0; passing = start }
 
 module _ {rules : List Rule} {f : ℤ} {b b' : List ℤ} {s : ℕ} (q : Passed rules f b b' s) where
-  pub passed_as : {s' : ℕ} → s' ≡ s → Passed rules f b b' s'
-  passed_as e = record { passes = q.passes; passing = counted refl (sym e) q.passing }
-
   -- no steps, no change
   pub passed_still : s ≤ 0 → b' ≡ b
   passed_still h = go q.passing h
@@ -305,9 +255,6 @@ module _ {rules : List Rule} {f : ℤ} {b b' : List ℤ} {s : ℕ} (q : Passed r
       go : {b' : List ℤ} {p s : ℕ} → Passing f (clauses_of rules) 1 b b' p s → s ≤ 0 → b' ≡ b
       go start h = refl
       go (round r w some) h = absurd (omega arith)
-
-pub leapt_none : (rules : List Rule) (f : ℤ) (passes t : ℕ) (drops : List ℕ) (b : List ℤ) → Leapt rules f passes t drops b b 0
-leapt_none rules f passes t drops b = record { few = omega arith; none = λ e. refl; traced = λ h. absurd (omega arith); lands = λ h. absurd (omega arith) }
 
 pub leap_small : {t s : ℕ} → t ≤ 2 ^ 29 → s < 2 ^ 33 → (t + 1) * s < 2 ^ 63
 leap_small {t = t} {s = s} p q =
@@ -330,48 +277,35 @@ module _ {t : ℕ} {drops : List ℕ} {times near' far' : List ℤ} (q : Dropped
   leapt {rules = rules} {f = f} {p = p} {s = s} {far = far} pos-t small spreading r some lf lf' e =
       let a : Aparts t times near' far far' =
       aparts t times near' far far' ln lf lf' (λ job h. apart t (get_or drops job 0) (q.near_is job h) (q.far_is job h) (spreading.far_is job h)) in
-      let rs : Rounds f (clauses_of rules) times far near' far' p s = subst (λ (b : List ℤ). Rounds f (clauses_of rules) b far near' far' p s) spreading.near_is (r.rounds some) in
+      let rs : Rounds f (clauses_of rules) times far near' far' p s = subst (λ (b : List ℤ). Rounds f (clauses_of rules) b far near' far' p s) spreading.near_is r.rounds in
       record {
         few = leap_small small r.few;
-        none = λ z. absurd (omega (arith, mul-pos {m = t + 1} {n = s} (omega arith) some));
-        traced = λ h. rw e (jump_along rs t pos-t a (λ job. get_or drops job 0) (λ job u. falls job));
-        lands = λ h job. rw e (jump_ends rs t pos-t a job (get_or drops job 0) (falls job));
+        some = mul-pos {m = t + 1} {n = s} (omega arith) some;
+        traced = rw e (jump_along rs t pos-t a (λ job. get_or drops job 0) (λ job u. falls job));
+        lands = λ job. rw e (jump_ends rs t pos-t a job (get_or drops job 0) (falls job));
       }
-
--- one jump, alone or after others
-module _ {rules : List Rule} {f : ℤ} {passes t : ℕ} {drops : List ℕ} {b b' b'' : List ℤ} {s k : ℕ} where
-  pub passed_more : Passed rules f b b' s → Leapt rules f passes t drops b' b'' k → Passed rules f b b'' (s + k)
-  passed_more q l = go (dec_lt 0 k)
-    where
-      go : Dec (0 < k) → Passed rules f b b'' (s + k)
-      go (yes h) = record { passes = q.passes + (t + 1) * passes; passing = joined q.passing (forget (l.traced h)) }
-      go (no h) =
-          subst (λ (x : List ℤ). Passed rules f b x (s + k)) (sym (l.none (omega arith))) (passed_as q (omega arith))
 
 -- passes after others
 pub passed_then : {rules : List Rule} {f : ℤ} {b b' b'' : List ℤ} {s k : ℕ} → Passed rules f b b' s → Passed rules f b' b'' k → Passed rules f b b'' (s + k)
 passed_then p q = record { passes = p.passes + q.passes; passing = joined p.passing q.passing }
 
-pub passed_one : {rules : List Rule} {f : ℤ} {passes t : ℕ} {drops : List ℕ} {b b' : List ℤ} {k : ℕ} → Leapt rules f passes t drops b b' k → Passed rules f b b' k
-passed_one l = passed_as (passed_more (passed_none _ _ _) l) (omega arith)
+pub passed_leap : {rules : List Rule} {f : ℤ} {passes t : ℕ} {drops : List ℕ} {b b' : List ℤ} {k : ℕ} → Leapt rules f passes t drops b b' k → Passed rules f b b' k
+passed_leap {passes = passes} {t = t} l = record { passes = (t + 1) * passes; passing = forget l.traced }
+
+-- a try of a jump: its steps, or none
+abbrev pub Tried : List Rule → ℤ → ℕ → ℕ → List ℕ → List ℤ → List ℤ → Option ℕ → Type 0
+Tried rules f passes t drops b b' made = MatchOption made (b' ≡ b) (λ s. Leapt rules f passes t drops b b' s)
+
+module _ (rules : List Rule) (f : ℤ) (passes t : ℕ) (drops : List ℕ) (b b' : List ℤ) where
+  pub passed_try : (made : Option ℕ) → Tried rules f passes t drops b b' made → Passed rules f b b' (unwrap_or made 0)
+  passed_try None e = subst (λ (x : List ℤ). Passed rules f b x 0) (sym e) (passed_none rules f b)
+  passed_try (Some s) l = passed_leap l
 
 -- the first i jobs pass the test
 pub record Drops (t : ℕ) (drops : List ℕ) (times near far : List ℤ) (i : ℕ) : Type 0 where
   pub near_to : (job : ℕ) → job < i → time_at times job ≡ time_at near job +ℤ pos (get_or drops job 0)
   pub far_to : (job : ℕ) → job < i → time_at times job ≡ time_at far job +ℤ pos ((t + 1) * get_or drops job 0)
 
-pub drops_none : (t : ℕ) (drops : List ℕ) (times near far : List ℤ) → Drops t drops times near far 0
-drops_none t drops times near far = record { near_to = λ job h. absurd (omega arith); far_to = λ job h. absurd (omega arith) }
-
 module _ {t : ℕ} {drops : List ℕ} {times near far : List ℤ} {i : ℕ} (g : Drops t drops times near far i) where
   pub drops_next : time_at times i ≡ time_at near i +ℤ pos (get_or drops i 0) → time_at times i ≡ time_at far i +ℤ pos ((t + 1) * get_or drops i 0) → Drops t drops times near far (i + 1)
   drops_next p q = record { near_to = below_more _ i g.near_to p; far_to = below_more _ i g.far_to q }
-
-  pub drops_all : length times ≤ i → Dropped t drops times near far
-  drops_all h = record { near_is = λ job l. g.near_to job (omega arith); far_is = λ job l. g.far_to job (omega arith) }
-
--- jumps so far: from any times that passes led to times₀ from
-pub record Leaping (rules : List Rule) (f : ℤ) (times₀ : List ℤ) (s₀ : ℕ) (drops : List ℕ) (near far times : List ℤ) (s : ℕ) : Type 0 where
-  pub passed : (b : List ℤ) → Passed rules f b times₀ s₀ → Passed rules f b times s
-  pub size : length times ≡ length times₀
-  pub sized : Sized (length times₀) drops near far

@@ -1,11 +1,12 @@
--- Rules taken into columns of their own, one after the other, and rules without tautologies. Assumes nothing.
+-- Rules picked one after the other, and rules without tautologies. Assumes nothing.
 use mathlib.Core.Path.{◌≡◌, refl, sym, ap, ◌∙◌}
 use mathlib.Core.Bool.{Bool, true, false, cond}
 use mathlib.Core.List.{List, [], ◌∷◌, ◌++◌, append-nil, append_assoc}
-use Prim.Native.Nat.{ℕ, suc, ◌+◌, ◌-◌, ◌<◌, ◌≤◌}
+use Prim.Native.Nat.{ℕ, suc, ◌+◌, ◌<◌, ◌≤◌}
 use native.Mathlib.Omega.{arith}
-use lib.ListN.{length}
+use lib.ListN.{length, set, take, drop, length-set, drop_of_length-le}
 use lib.IntN.{ℤ}
+use Rattle.std.proofs.lemmas.List.{drop_more, take_more_set}
 use Rattle.maxatom.specs.Book.{Each}
 use Rattle.maxatom.specs.Class.{tautology}
 use Rattle.maxatom.specs.Clauses.{Clause, clause_of, clauses_of}
@@ -14,98 +15,53 @@ use Rattle.maxatom.specs.declared.Rule.{Rule}
 use Rattle.maxatom.proofs.Choose.{cond_yes, cond_no}
 use Rattle.maxatom.proofs.Classes.{class_meaning}
 use Rattle.maxatom.proofs.Rules.{keeps}
-use Rattle.derivation.specs.Step.{rule_at}
+use Rattle.derivation.specs.Step.{no_rule, rule_at}
 use Rattle.derivation.proofs.AnyOrder.{each_at}
-use Rattle.table.specs.Columns.{rule_of, rules_from, rules_of, Columns}
-use Rattle.table.proofs.Rows.{rows_next, rows_end}
 use Rattle.solver.specs.Rules.{Named, NamedAll}
 use Rattle.jump.specs.Leaps.{proper, Passed}
 
--- what `take` makes of the first i rules is in the first m of the columns
-pub record Filling (take : List Rule → List Rule) (xs ys zs : List ℕ) (ks : List ℤ) (count : ℕ) (pxs₀ pys₀ pzs₀ : List ℕ) (pks₀ : List ℤ) (pxs pys pzs : List ℕ) (pks : List ℤ) (m i : ℕ) : Type 0 where
-  pub low : i ≤ count
+-- what `choose` makes of the first i rules is the first m of those picked
+pub record Filling (choose : List Rule → List Rule) (rules : List Rule) (size : ℕ) (picked : List Rule) (m i : ℕ) : Type 0 where
   pub few : m ≤ i
-  pub xlong : length pxs ≡ length pxs₀
-  pub ylong : length pys ≡ length pys₀
-  pub zlong : length pzs ≡ length pzs₀
-  pub klong : length pks ≡ length pks₀
-  pub rest : take (rules_of xs ys zs ks count) ≡ rules_of pxs pys pzs pks m ++ take (rules_from xs ys zs ks i (count - i))
+  pub size_is : length picked ≡ size
+  pub rest : choose rules ≡ take m picked ++ choose (drop i rules)
 
-pub filling_none : (take : List Rule → List Rule) (xs ys zs : List ℕ) (ks : List ℤ) (count : ℕ) (pxs pys pzs : List ℕ) (pks : List ℤ) →
-    Filling take xs ys zs ks count pxs pys pzs pks pxs pys pzs pks 0 0
-unfolding rules_from
-filling_none take xs ys zs ks count pxs pys pzs pks =
-    let e : count ≡ count - 0 = omega arith in
-    record {
-      low = omega arith;
-      few = omega arith;
-      xlong = refl;
-      ylong = refl;
-      zlong = refl;
-      klong = refl;
-      rest = ap (λ (n : ℕ). take (rules_from xs ys zs ks 0 n)) e;
-    }
+pub filling_none : (choose : List Rule → List Rule) (rules picked : List Rule) → Filling choose rules (length picked) picked 0 0
+filling_none choose rules picked = record { few = omega arith; size_is = refl; rest = refl }
 
--- the columns before and after a rule
-pub record Put (pxs pys pzs : List ℕ) (pks : List ℤ) (m : ℕ) (pxs' pys' pzs' : List ℕ) (pks' : List ℤ) (s : Rule) : Type 0 where
-  pub xlong : length pxs' ≡ length pxs
-  pub ylong : length pys' ≡ length pys
-  pub zlong : length pzs' ≡ length pzs
-  pub klong : length pks' ≡ length pks
-  pub holds : rules_of pxs' pys' pzs' pks' (m + 1) ≡ rules_of pxs pys pzs pks m ++ (s ∷ [])
-
-module _ {take : List Rule → List Rule} {xs ys zs : List ℕ} {ks : List ℤ} {count : ℕ} {pxs₀ pys₀ pzs₀ : List ℕ} {pks₀ : List ℤ} {pxs pys pzs : List ℕ} {pks : List ℤ} {m i : ℕ}
-    (f : Filling take xs ys zs ks count pxs₀ pys₀ pzs₀ pks₀ pxs pys pzs pks m i) where
-  -- the columns hold one more
-  pub filling_room : Columns pxs₀ pys₀ pzs₀ pks₀ count → i < count → Columns pxs pys pzs pks (m + 1)
-  filling_room c h =
-      record {
-        xlong = omega (arith, f.few, f.xlong, c.xlong);
-        ylong = omega (arith, f.few, f.ylong, c.ylong);
-        zlong = omega (arith, f.few, f.zlong, c.zlong);
-        klong = omega (arith, f.few, f.klong, c.klong);
-      }
-
-  module _ (h : i < count) where
+module _ {choose : List Rule → List Rule} {rules : List Rule} {size : ℕ} {picked : List Rule} {m i : ℕ} (f : Filling choose rules size picked m i) where
+  module _ (h : i < length rules) where
     abbrev later : List Rule
-    later = rules_from xs ys zs ks (i + 1) (count - (i + 1))
+    later = drop (i + 1) rules
 
-    at_rule : take (rules_from xs ys zs ks i (count - i)) ≡ take (rule_of xs ys zs ks i ∷ later)
-    at_rule = ap take (rows_next xs ys zs ks i count h)
+    at_rule : choose (drop i rules) ≡ choose (rule_at rules i ∷ later)
+    at_rule = ap choose (drop_more rules i no_rule h)
 
     -- nothing of rule i
-    pub filling_skip : take (rule_of xs ys zs ks i ∷ later) ≡ take later → Filling take xs ys zs ks count pxs₀ pys₀ pzs₀ pks₀ pxs pys pzs pks m (i + 1)
+    pub filling_skip : choose (rule_at rules i ∷ later) ≡ choose later → Filling choose rules size picked m (i + 1)
     filling_skip e =
         record {
-          low = omega arith;
           few = omega (arith, f.few);
-          xlong = f.xlong;
-          ylong = f.ylong;
-          zlong = f.zlong;
-          klong = f.klong;
-          rest = f.rest ∙ ap (λ (l : List Rule). rules_of pxs pys pzs pks m ++ l) (at_rule ∙ e);
+          size_is = f.size_is;
+          rest = f.rest ∙ ap (λ (l : List Rule). take m picked ++ l) (at_rule ∙ e);
         }
 
     -- a rule for it
-    pub filling_put : {s : Rule} → take (rule_of xs ys zs ks i ∷ later) ≡ (s ∷ []) ++ take later → {pxs' pys' pzs' : List ℕ} {pks' : List ℤ} →
-        Put pxs pys pzs pks m pxs' pys' pzs' pks' s → Filling take xs ys zs ks count pxs₀ pys₀ pzs₀ pks₀ pxs' pys' pzs' pks' (m + 1) (i + 1)
-    filling_put {s = s} e p =
+    pub filling_put : {s : Rule} → choose (rule_at rules i ∷ later) ≡ (s ∷ []) ++ choose later → m < size → Filling choose rules size (set picked m s) (m + 1) (i + 1)
+    filling_put {s = s} e room =
         record {
-          low = omega arith;
           few = omega (arith, f.few);
-          xlong = p.xlong ∙ f.xlong;
-          ylong = p.ylong ∙ f.ylong;
-          zlong = p.zlong ∙ f.zlong;
-          klong = p.klong ∙ f.klong;
-          rest = f.rest ∙ ap (λ (l : List Rule). rules_of pxs pys pzs pks m ++ l) (at_rule ∙ e) ∙
-              sym (append_assoc (rules_of pxs pys pzs pks m) (s ∷ []) (take later)) ∙ ap (λ (l : List Rule). l ++ take later) (sym p.holds);
+          size_is = length-set picked m s ∙ f.size_is;
+          rest = f.rest ∙ ap (λ (l : List Rule). take m picked ++ l) (at_rule ∙ e) ∙
+              sym (append_assoc (take m picked) (s ∷ []) (choose later)) ∙
+              ap (λ (l : List Rule). l ++ choose later) (sym (take_more_set picked m s (omega (arith, f.size_is))));
         }
 
-  pub filling_all : count ≤ i → take [] ≡ [] → rules_of pxs pys pzs pks m ≡ take (rules_of xs ys zs ks count)
+  pub filling_all : length rules ≤ i → choose [] ≡ [] → take m picked ≡ choose rules
   filling_all h none =
       sym
-      (f.rest ∙ ap (λ (l : List Rule). rules_of pxs pys pzs pks m ++ take l) (rows_end xs ys zs ks i count h) ∙ ap (λ (l : List Rule). rules_of pxs pys pzs pks m ++ l) none ∙
-      append-nil (rules_of pxs pys pzs pks m))
+      (f.rest ∙ ap (λ (l : List Rule). take m picked ++ choose l) (drop_of_length-le rules h) ∙ ap (λ (l : List Rule). take m picked ++ l) none ∙
+      append-nil (take m picked))
 
 -- what is said of each rule
 pub at_each : (P : Rule → Type 0) (rules : List Rule) → ((i : ℕ) → i < length rules → P (rule_at rules i)) → Each P rules

@@ -1,28 +1,27 @@
 // Jumps: repetitions of the same passes, taken at once where the lockstep test allows it.
-ghost use Rattle.std.specs.Prelude.{◌≡◌, Bool, true, ℕ, ◌≤◌, ◌^◌, length, ℤ};
-ghost use Rattle.table.specs.Columns.{rules_of, Columns};
+ghost use Rattle.std.specs.Prelude.{◌≡◌, Bool, true, ℕ, ◌≤◌, ◌^◌, length, ℤ, MatchOption};
 ghost use Rattle.solver.specs.Rules.{NamedAll};
-ghost use Rattle.jump.specs.Leaps.{Spread, Dropped, Passed, Leapt, Sized};
+ghost use Rattle.jump.specs.Leaps.{Spread, Dropped, Passed, Leapt};
 
 use crate::lockstep::rounds;
-use crate::minutes::{copy, earlier, fall, is_earlier, product, wide};
+use crate::minutes::{earlier, fall, is_earlier, product};
 use crate::plain::plain_passes;
+use crate::room::Room;
+use maxatom::Rule;
 
-// The near times are the times, and the far times lie t drops below them, none below the floor; or false.
+// Sets the near times to the times, and the far times t drops below them. Answers whether each far time is at or above the floor.
 fn spread(f: i32, t: u64, drops: &[u32], times: &[i32], near: &mut [i32], far: &mut [i32]) -> bool
     requires t_bound { t ≤ 2 ^ 29 }
-    requires sized { Sized (length times.now) drops.now near.old far.old }
+    requires sizes { (length drops.now ≡ length times.now) × (length near.old ≡ length times.now) × (length far.old ≡ length times.now) }
     ensures { result ≡ true → Spread t drops.now times.now near.new far.new }
 {
-    let mut i = 0;
-    while i < times.len() {
-        let e = earlier(times[i], product(t, drops[i]));
-        if e < (f as i64) {
+    near.copy_from_slice(times);
+    for (i, drop) in drops.iter().enumerate() {
+        let low = earlier(times[i], product(t, *drop));
+        if low < i64::from(f) {
             return false;
         }
-        near[i] = times[i];
-        far[i] = e as i32;
-        i += 1;
+        far[i] = low as i32;
     }
     true
 }
@@ -30,174 +29,164 @@ fn spread(f: i32, t: u64, drops: &[u32], times: &[i32], near: &mut [i32], far: &
 // The near times lie a drop below the times, and the far times t + 1 drops.
 fn dropped(t: u64, drops: &[u32], times: &[i32], near: &[i32], far: &[i32]) -> bool
     requires t_bound { t ≤ 2 ^ 29 }
-    requires sized { Sized (length times.now) drops.now near.now far.now }
+    requires sizes { (length drops.now ≡ length times.now) × (length near.now ≡ length times.now) × (length far.now ≡ length times.now) }
     ensures { result ≡ true → Dropped t drops.now times.now near.now far.now }
 {
-    let mut i = 0;
-    while i < times.len() {
-        if !is_earlier(times[i], near[i], wide(drops[i])) {
+    for (i, drop) in drops.iter().enumerate() {
+        if !is_earlier(times[i], near[i], u64::from(*drop))
+            || !is_earlier(times[i], far[i], product(t + 1, *drop))
+        {
             return false;
         }
-        if !is_earlier(times[i], far[i], product(t + 1, drops[i])) {
-            return false;
-        }
-        i += 1;
     }
     true
 }
 
-// The passes t + 1 times over, where the lockstep test allows it: their steps, or 0 and no change.
-pub fn leap(
-    xs: &[u16],
-    ys: &[u16],
-    zs: &[u16],
-    ks: &[i32],
-    count: usize,
+// Makes the passes t + 1 times over, where the lockstep test allows it, and answers their steps. Else the times stay as they are.
+pub fn leap<const N: usize>(
+    rules: &[Rule],
     f: i32,
     passes: usize,
     t: u64,
     drops: &[u32],
-    near: &mut [i32],
-    far: &mut [i32],
+    room: &mut Room<N>,
     times: &mut [i32],
-) -> u64
-    requires columns { Columns xs.now ys.now zs.now ks.now count }
-    requires named_all { NamedAll (rules_of xs.now ys.now zs.now ks.now count) (length times.old) (length times.old) }
-    requires sized { Sized (length times.old) drops.now near.old far.old }
-    ensures { Leapt (rules_of xs.now ys.now zs.now ks.now count) f passes t drops.now times.old times.new result }
+) -> Option<u64>
+    requires named_all { NamedAll rules.now (length times.old) (length times.old) }
+    requires few { length times.old ≤ N }
+    requires drops_len { length drops.now ≡ length times.old }
+    ensures { MatchOption result (times.new ≡ times.old) (λ s. Leapt rules.now f passes t drops.now times.old times.new s) }
 {
-    if t < 1 {
-        return 0;
+    if passes < 1 || t < 1 || 536870912 < t {
+        return None;
     }
-    if 536870912 < t {
-        return 0;
-    }
+    // Both halves of the room are cut to the jobs here, once, so that the near and the far times are plain slices below.
+    let n = times.len();
+    let Room { near, far } = room;
+    let near = &mut near[..];
+    let far = &mut far[..];
+    let near = &mut near[..n];
+    let far = &mut far[..n];
     if !spread(f, t, drops, times, near, far) {
-        return 0;
+        return None;
     }
-    let s = rounds(xs, ys, zs, ks, count, f, passes, near, far);
-    if s < 1 {
-        return 0;
-    }
+    let steps = rounds(rules, f, passes, near, far)?;
     if !dropped(t, drops, times, near, far) {
-        return 0;
+        return None;
     }
-    copy(far, times);
-    (t + 1) * s
+    times.copy_from_slice(far);
+    Some((t + 1) * steps)
 }
 
-// The drops, and how many more of them fit above the floor.
+// Fills in the drops, and answers how many more of them fit above the floor.
 fn guess(f: i32, times: &[i32], near: &[i32], drops: &mut [u32]) -> u64
-    requires near_len { length near.now ≡ length times.now }
-    requires drops_len { length drops.old ≡ length times.now }
+    requires sizes { (length near.now ≡ length times.now) × (length drops.old ≡ length times.now) }
 {
     let mut t: u64 = 536870912;
-    let mut i = 0;
-    while i < times.len() {
-        let d = fall(times[i], near[i]);
-        drops[i] = d;
-        if 0 < d {
-            let most = wide(fall(near[i], f)) / wide(d);
-            if most < t {
-                t = most;
-            }
+    for (i, time) in times.iter().enumerate() {
+        let drop = fall(*time, near[i]);
+        drops[i] = drop;
+        if 0 < drop {
+            t = t.min(u64::from(fall(near[i], f) / drop));
         }
-        i += 1;
     }
     t
 }
 
-fn least(a: u64, b: u64) -> u64
-    ensures { result ≤ a }
+// Makes the passes on the near times, fills in the drops, and answers how many more of them fit above the floor. None where the passes
+// give up.
+fn try_passes<const N: usize>(
+    rules: &[Rule],
+    f: i32,
+    passes: usize,
+    times: &[i32],
+    drops: &mut [u32],
+    room: &mut Room<N>,
+) -> Option<u64>
+    requires named_all { NamedAll rules.now (length times.now) (length times.now) }
+    requires few { length times.now ≤ N }
+    requires drops_len { length drops.old ≡ length times.now }
 {
-    if a < b { a } else { b }
+    let n = times.len();
+    let near = &mut room.near[..];
+    let near = &mut near[..n];
+    near.copy_from_slice(times);
+    plain_passes(rules, f, passes as u64, near)?;
+    Some(guess(f, times, near, drops))
 }
 
 // Two repetitions tell whether there are more; of many passes, whose marks tell enough, all that are left are tried at once.
 fn first_try(passes: usize, left: u64) -> u64 {
-    if passes < 16 { least(1, left) } else { left }
+    if passes < 16 { left.min(1) } else { left }
 }
 
-// The repetitions beyond one that are left after a try of t + 1, with so many steps.
-fn still_left(left: u64, t: u64, steps: u64) -> u64 {
-    if steps < 1 {
-        return left;
+// The repetitions beyond one that are left after a try of t + 1.
+fn still_left(left: u64, t: u64, made: bool) -> u64 {
+    if made {
+        left.saturating_sub(t).saturating_sub(1)
+    } else {
+        left
     }
-    if t < left { left - t - 1 } else { 0 }
 }
 
-// What to try after the first: half as many, or all that are left.
-fn next_try(first: u64, left: u64, steps: u64) -> u64 {
-    if steps < 1 { first / 2 } else { left }
+// What to try after the first: all that are left, or half as many.
+fn next_try(first: u64, left: u64, made: bool) -> u64 {
+    if made { left } else { first / 2 }
 }
 
-// Repetitions of so many passes, one and at most so many beyond it, as the lockstep test allows: their steps.
-fn repeat(
-    xs: &[u16],
-    ys: &[u16],
-    zs: &[u16],
-    ks: &[i32],
-    count: usize,
+// Makes repetitions of the passes, one and at most `most` beyond it, as the lockstep test allows, and answers their steps.
+#[tactic(auto, using(crate::proofs::Jumping::passed_try, crate::proofs::Jumping::passed_then))]
+fn repeat<const N: usize>(
+    rules: &[Rule],
     f: i32,
     passes: usize,
     most: u64,
     drops: &[u32],
-    near: &mut [i32],
-    far: &mut [i32],
+    room: &mut Room<N>,
     times: &mut [i32],
 ) -> u64
-    requires columns { Columns xs.now ys.now zs.now ks.now count }
-    requires named_all { NamedAll (rules_of xs.now ys.now zs.now ks.now count) (length times.old) (length times.old) }
-    requires sized { Sized (length times.old) drops.now near.old far.old }
-    ensures { Passed (rules_of xs.now ys.now zs.now ks.now count) f times.old times.new result }
+    requires named_all { NamedAll rules.now (length times.old) (length times.old) }
+    requires few { length times.old ≤ N }
+    requires drops_len { length drops.now ≡ length times.old }
+    ensures { Passed rules.now f times.old times.new result }
 {
     let first = first_try(passes, most);
-    let mut s = leap(
-        xs, ys, zs, ks, count, f, passes, first, drops, near, far, times,
-    );
-    let mut left = still_left(most, first, s);
-    let mut t = next_try(first, left, s);
-    while 0 < t {
-        if 4611686018427387904 <= s {
-            return s;
-        }
-        let k = leap(xs, ys, zs, ks, count, f, passes, t, drops, near, far, times);
-        s += k;
-        left = still_left(left, t, k);
-        t = least(t / 2, left);
+    let made = leap(rules, f, passes, first, drops, room, times);
+    let mut left = still_left(most, first, made.is_some());
+    let mut t = next_try(first, left, made.is_some());
+    let mut steps = made.unwrap_or(0);
+    // The tries halve, so no range goes through them.
+    while 0 < t && steps < 4611686018427387904 {
+        let made = leap(rules, f, passes, t, drops, room, times);
+        left = still_left(left, t, made.is_some());
+        t = left.min(t / 2);
+        steps += made.unwrap_or(0);
     }
-    s
+    steps
 }
 
-// The same, with the drops and their number found by a try of the passes.
-pub fn leaps(
-    xs: &[u16],
-    ys: &[u16],
-    zs: &[u16],
-    ks: &[i32],
-    count: usize,
+// Makes repetitions of the passes, as far as the lockstep test allows, and answers their steps.
+#[tactic(auto, using(crate::proofs::Jumping::passed_none))]
+pub fn leaps<const N: usize>(
+    rules: &[Rule],
     f: i32,
-    passes: usize,
-    drops: &mut [u32],
-    near: &mut [i32],
-    far: &mut [i32],
+    passes: Option<usize>,
+    room: &mut Room<N>,
     times: &mut [i32],
 ) -> u64
-    requires columns { Columns xs.now ys.now zs.now ks.now count }
-    requires named_all { NamedAll (rules_of xs.now ys.now zs.now ks.now count) (length times.old) (length times.old) }
-    requires sized { Sized (length times.old) drops.old near.old far.old }
-    ensures { Passed (rules_of xs.now ys.now zs.now ks.now count) f times.old times.new result }
+    requires named_all { NamedAll rules.now (length times.old) (length times.old) }
+    requires few { length times.old ≤ N }
+    ensures { Passed rules.now f times.old times.new result }
 {
-    if passes < 1 {
+    let Some(passes) = passes else {
         return 0;
+    };
+    let n = times.len();
+    // There is no heap: one drop for each job that the room holds.
+    let mut drops = [0; N];
+    let drops = &mut drops[..n];
+    match try_passes(rules, f, passes, times, drops, room) {
+        None => 0,
+        Some(most) => repeat(rules, f, passes, most, drops, room, times),
     }
-    copy(times, near);
-    let p = plain_passes(xs, ys, zs, ks, count, f, passes as u64, near);
-    if !p.made {
-        return 0;
-    }
-    let most = guess(f, times, near, drops);
-    repeat(
-        xs, ys, zs, ks, count, f, passes, most, drops, near, far, times,
-    )
 }

@@ -9,12 +9,14 @@ use std::io;
 use std::io::{Read, Write};
 
 // Reads until buf is full or the input ends, and returns how many bytes it put at the start of buf: where the input's bytes are known,
-// all that buf has room for.
+// all that buf has room for. The place is counted here, since the library's `read_to_end` fills a Vec, and the book's bytes go into a
+// fixed array.
 fn read_full<R: Read>(input: &mut R, buf: &mut [u8]) -> io::Result<usize>
     ensures upper_bound { IfOk result (λ n. n ≤ length buf.new) }
     ensures bytes { IfOk result (λ n. IfSome (R.remaining input.old) (λ xs. take n buf.new ≡ take (length buf.new) xs)) }
 {
     let mut done = 0;
+    // The range bounds the reads, so that the loop ends whatever the input does.
     for _ in 0..u64::MAX {
         if buf.len() <= done {
             break;
@@ -29,9 +31,9 @@ fn read_full<R: Read>(input: &mut R, buf: &mut [u8]) -> io::Result<usize>
 }
 
 fn main(rt: HostRuntime) -> io::Result<()> {
-    let mut file: [u8; 16384] = [0; 16384];
+    let mut file = [0; 16384];
     let got = read_full(&mut rt.reader(), &mut file)?;
-    let mut text = [0u8; 65536];
+    let mut text = [0; 65536];
     let n = report(&file[..got], &mut text);
     io::writer(&rt).write_all(&text[..n])
 }

@@ -1,127 +1,97 @@
-// Files and plans at and past each limit of document 01, one line a case: what the reader and the plan writer answer.
+// Files and plans at and past each limit of the file format, one line a case: what the reader and the plan writer answer.
 
 #![tactic(auto)]
 
-ghost use Rattle.std.specs.Prelude.{◌<◌, ◌≤◌};
+ghost use Rattle.std.specs.Prelude.{◌≤◌, length};
 
-use planner::{Outcome, Read, write_plan};
+use planner::{Refusal, Rule, read_book, write_plan};
 use std::io;
 
-fn put(buf: &mut [u8], at: usize, b: u8) {
-    if at < buf.len() {
-        buf[at] = b;
+// BK and the job count.
+fn book(jobs: u16) -> [u8; 4] {
+    let [a, b] = jobs.to_le_bytes();
+    [b'B', b'K', a, b]
+}
+
+// RU, the jobs 0, 0 and z, and the offset by its 32 bits.
+fn rule(z: u16, k: u32) -> [u8; 12] {
+    let [a, b] = z.to_le_bytes();
+    let [c, d, e, f] = k.to_le_bytes();
+    [b'R', b'U', 0, 0, 0, 0, a, b, c, d, e, f]
+}
+
+// HR, the jobs 0, 0 and 0, and the hours by their 16 bits.
+fn hours(bits: u16) -> [u8; 10] {
+    let [a, b] = bits.to_le_bytes();
+    [b'H', b'R', 0, 0, 0, 0, 0, 0, a, b]
+}
+
+// Printed here and by no `Display`, since the other answers are printed where they are found.
+fn refused(rt: &impl Print, refusal: Refusal) -> io::Result<()> {
+    let number = u8::from(refusal.fault);
+    let place = refusal.place;
+    println!(rt; "REFUSED {number} {place}")
+}
+
+// What the reader answers.
+fn show(rt: &impl Print, file: &[u8]) -> io::Result<()> {
+    let mut rules = [Rule {
+        x: 0,
+        y: 0,
+        z: 0,
+        k: 0,
+    }; 1024];
+    match read_book(file, &mut rules) {
+        Ok(counts) => println!(rt; "BOOK {} {}", counts.jobs, counts.rules),
+        Err(refusal) => refused(rt, refusal),
     }
 }
 
-fn put16(buf: &mut [u8], at: usize, n: u16)
-    requires { at < 30000 }
-{
-    put(buf, at, (n % 256) as u8);
-    put(buf, at + 1, (n / 256 % 256) as u8);
-}
-
-fn put32(buf: &mut [u8], at: usize, n: u32)
-    requires { at < 25000 }
-{
-    put16(buf, at, (n % 65536) as u16);
-    put16(buf, at + 2, (n / 65536 % 65536) as u16);
-}
-
-// BK.
-fn put_book(buf: &mut [u8], jobs: u16) {
-    put16(buf, 0, 19266);
-    put16(buf, 2, jobs);
-}
-
-// A mark, with the jobs 0, 0 and z after it.
-fn put_jobs(buf: &mut [u8], at: usize, mark: u16, z: u16)
-    requires { at < 20000 }
-{
-    put16(buf, at, mark);
-    put16(buf, at + 2, 0);
-    put16(buf, at + 4, 0);
-    put16(buf, at + 6, z);
-}
-
-// RU.
-fn put_rule(buf: &mut [u8], at: usize, z: u16, k: u32)
-    requires { at < 20000 }
-{
-    put_jobs(buf, at, 21842, z);
-    put32(buf, at + 8, k);
-}
-
-// HR.
-fn put_hours(buf: &mut [u8], at: usize, z: u16, hours: u16)
-    requires { at < 20000 }
-{
-    put_jobs(buf, at, 21064, z);
-    put16(buf, at + 8, hours);
-}
-
-fn say(rt: &impl Print, a: u64, b: u64) -> io::Result<()> {
-    println!(rt; "{a} {b}")
-}
-
-// What the reader answers on the first n bytes.
-fn show(rt: &impl Print, file: &[u8], n: usize) -> io::Result<()> {
-    if file.len() < n {
-        return Ok(());
-    }
-    let read = lent::read_book(&file[0..n], lent::no_rules(), 1024);
-    let said = read.said;
-    match said {
-        Read::Book(c) => {
-            print!(rt; "BOOK ")?;
-            say(rt, c.jobs as u64, c.rules as u64)
-        }
-        Read::Refused(r) => {
-            print!(rt; "REFUSED ")?;
-            say(rt, r.number as u64, r.place as u64)
-        }
-    }
-}
-
-fn with_jobs(rt: &impl Print, buf: &mut [u8], jobs: u16) -> io::Result<()> {
+fn with_jobs(rt: &impl Print, jobs: u16) -> io::Result<()> {
     print!(rt; "jobs {jobs}: ")?;
-    put_book(buf, jobs);
-    show(rt, buf, 4)
+    show(rt, &book(jobs))
 }
 
-fn with_rules(rt: &impl Print, buf: &mut [u8], count: usize) -> io::Result<()>
+fn with_rules(rt: &impl Print, count: usize) -> io::Result<()>
     requires { count ≤ 1025 }
 {
     print!(rt; "rules {count}: ")?;
-    put_book(buf, 1);
-    let mut i = 0;
-    while i < count {
-        put_rule(buf, 4 + i * 12, 0, 0);
-        i += 1;
+    // An array, and its first places: no file of a case is longer, and nothing can run out of memory.
+    let mut file = [0; 12304];
+    file[..4].copy_from_slice(&book(1));
+    for i in 0..count {
+        let at = 4 + i * 12;
+        file[at..at + 12].copy_from_slice(&rule(0, 0));
     }
-    show(rt, buf, 4 + count * 12)
+    show(rt, &file[..4 + count * 12])
+}
+
+// A book of one rule, by the rule's record.
+fn one_rule(rt: &impl Print, jobs: u16, record: &[u8]) -> io::Result<()>
+    requires { length record.now ≤ 12 }
+{
+    let mut file = [0; 16];
+    let end = 4 + record.len();
+    file[..4].copy_from_slice(&book(jobs));
+    file[4..end].copy_from_slice(record);
+    show(rt, &file[..end])
 }
 
 // An offset by its 32 bits.
-fn with_offset(rt: &impl Print, buf: &mut [u8], bits: u32) -> io::Result<()> {
+fn with_offset(rt: &impl Print, bits: u32) -> io::Result<()> {
     print!(rt; "offset bits {bits}: ")?;
-    put_book(buf, 1);
-    put_rule(buf, 4, 0, bits);
-    show(rt, buf, 16)
+    one_rule(rt, 1, &rule(0, bits))
 }
 
 // Hours by their 16 bits.
-fn with_hours(rt: &impl Print, buf: &mut [u8], bits: u16) -> io::Result<()> {
+fn with_hours(rt: &impl Print, bits: u16) -> io::Result<()> {
     print!(rt; "hours bits {bits}: ")?;
-    put_book(buf, 1);
-    put_hours(buf, 4, 0, bits);
-    show(rt, buf, 14)
+    one_rule(rt, 1, &hours(bits))
 }
 
-fn with_job(rt: &impl Print, buf: &mut [u8], jobs: u16, z: u16) -> io::Result<()> {
+fn with_job(rt: &impl Print, jobs: u16, z: u16) -> io::Result<()> {
     print!(rt; "job of {jobs}, {z}: ")?;
-    put_book(buf, jobs);
-    put_rule(buf, 4, z, 0);
-    show(rt, buf, 16)
+    one_rule(rt, jobs, &rule(z, 0))
 }
 
 // What the plan writer answers on n times, from a byte of 2,048 on.
@@ -129,39 +99,32 @@ fn with_times(rt: &impl Print, n: usize, at: usize) -> io::Result<()>
     requires { n ≤ 300 }
 {
     print!(rt; "times {n} at {at}: ")?;
-    let times = [0i32; 300];
-    let mut out = [0u8; 2048];
-    match write_plan(&times[0..n], &mut out, at) {
-        Outcome::Done => println!(rt; "WRITTEN"),
-        Outcome::Refused(r) => {
-            print!(rt; "REFUSED ")?;
-            say(rt, r.number as u64, r.place as u64)
-        }
+    let times = [0; 300];
+    let mut out = [0; 2048];
+    match write_plan(&times[..n], &mut out, at) {
+        Ok(()) => println!(rt; "WRITTEN"),
+        Err(refusal) => refused(rt, refusal),
     }
 }
 
 fn main(rt: HostRuntime) -> io::Result<()> {
-    let mut buf = [0u8; 16384];
-    with_jobs(&rt, &mut buf, 0)?;
-    with_jobs(&rt, &mut buf, 1)?;
-    with_jobs(&rt, &mut buf, 256)?;
-    with_jobs(&rt, &mut buf, 257)?;
-    with_rules(&rt, &mut buf, 1024)?;
-    with_rules(&rt, &mut buf, 1025)?;
-    with_offset(&rt, &mut buf, 20160)?;
-    with_offset(&rt, &mut buf, 20161)?;
-    with_offset(&rt, &mut buf, 4294947136)?;
-    with_offset(&rt, &mut buf, 4294947135)?;
-    with_hours(&rt, &mut buf, 336)?;
-    with_hours(&rt, &mut buf, 337)?;
-    with_hours(&rt, &mut buf, 65200)?;
-    with_hours(&rt, &mut buf, 65199)?;
-    with_job(&rt, &mut buf, 256, 255)?;
-    with_job(&rt, &mut buf, 256, 256)?;
+    for jobs in [0, 1, 256, 257] {
+        with_jobs(&rt, jobs)?;
+    }
+    with_rules(&rt, 1024)?;
+    with_rules(&rt, 1025)?;
+    for bits in [20160, 20161, 4294947136, 4294947135] {
+        with_offset(&rt, bits)?;
+    }
+    for bits in [336, 337, 65200, 65199] {
+        with_hours(&rt, bits)?;
+    }
+    with_job(&rt, 256, 255)?;
+    with_job(&rt, 256, 256)?;
     print!(rt; "42 4B 01 00 52: ")?;
-    show(&rt, b"\x42\x4B\x01\x00\x52", 5)?;
+    show(&rt, b"\x42\x4B\x01\x00\x52")?;
     print!(rt; "no byte: ")?;
-    show(&rt, b"\x42", 0)?;
+    show(&rt, b"")?;
     with_times(&rt, 0, 0)?;
     with_times(&rt, 1, 0)?;
     with_times(&rt, 256, 0)?;

@@ -1,19 +1,24 @@
 -- The replies as C sees them: three words.
-use Rattle.std.specs.Prelude.{Bool, true, false, ℕ}
+use Rattle.std.specs.Prelude.{Bool, true, false, ℕ, ◌-◌}
 use Rattle.derivation.specs.Refusals.{Reply, refused, answer}
 use Rattle.derivation.specs.Run.{End, planned, fell, unfinished}
 use Rattle.derivation.specs.Calls.{ModelCheck, satisfies, violates, Answer}
 use Rattle.derivation.specs.declared.Counts.{Counts}
-use Rattle.bookfile.specs.declared.reading.Stretch.{Stretch}
+use Rattle.derivation.specs.declared.Refusal.{Refusal}
+use Rattle.derivation.specs.Faults.{number_of}
+use Rattle.std.specs.declared.ops.Range.{Range}
 use Rattle.marlinfray.specs.declared.Words.{Words}
 
 abbrev pub words : ℕ → ℕ → ℕ → Words
 words kind first second = record { kind = kind; first = first; second = second }
 
 -- a refusal is 2, its number and its place; of an answer the call says which words it is
-unfoldable pub reply_words : {A : Type 0} → (A → Words) → Reply A → Words
+abbrev pub reply_words : {A : Type 0} → (A → Words) → Reply A → Words
 reply_words say (refused number place) = words 2 number place
 reply_words say (answer a) = say a
+
+abbrev pub refusal_words : Refusal → Words
+refusal_words refusal = words 2 (number_of refusal.fault) refusal.place
 
 -- it was done: fresh board, hand step, plan writer
 abbrev pub done_words : Unit {0} → Words
@@ -24,17 +29,17 @@ abbrev pub count_words : Counts → Words
 count_words counts = words 0 counts.jobs counts.rules
 
 -- kept test: all rules are kept, or 1 and the first broken one
-unfoldable pub check_words : ModelCheck → Words
+abbrev pub check_words : ModelCheck → Words
 check_words satisfies = words 0 0 0
 check_words (violates number) = words 1 number 0
 
 -- tight test: whether the rule is tight
-unfoldable pub tight_words : Bool → Words
+abbrev pub tight_words : Bool → Words
 tight_words true = words 0 1 0
 tight_words false = words 0 0 0
 
--- bench run: the steps for a plan; 1, the steps and the job that fell for none. No run ends unfinished (demand 2)
-unfoldable pub end_words : ℕ → End → Words
+-- bench run: the steps for a plan; 1, the steps and the job that fell for none. No run ends unfinished
+abbrev pub end_words : ℕ → End → Words
 end_words steps planned = words 0 steps 0
 end_words steps (fell job) = words 1 steps job
 end_words steps unfinished = words 3 steps 0
@@ -43,5 +48,5 @@ abbrev pub run_words : Answer → Words
 run_words a = end_words a.steps a.end
 
 -- a rule's record: its first byte in the file and its length
-abbrev pub place_words : Stretch → Words
-place_words s = words 0 s.at s.size
+abbrev pub place_words : Range ℕ → Words
+place_words place = words 0 place.start (place.end - place.start)

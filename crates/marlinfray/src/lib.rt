@@ -3,23 +3,22 @@
 
 #![tactic(auto)]
 
-ghost use Rattle.std.specs.Prelude.{◌≡◌, length};
+ghost use Rattle.std.specs.Prelude.{◌≡◌, MatchResult, length};
 ghost use Rattle.maxatom.specs.Class.{class_of};
 ghost use Rattle.maxatom.specs.declared.Rule.{Rule};
 ghost use Rattle.derivation.specs.Refusals.{verdict};
 ghost use Rattle.derivation.specs.Step.{step_call};
 ghost use Rattle.derivation.specs.Calls.{model_check_call, tight_call, initial_reply, initial_times, run_reply, run_times};
-ghost use Rattle.derivation.specs.Replies.{outcome_reply, read_of, model_check_reply, tight_reply, solved_reply, state_of};
+ghost use Rattle.derivation.specs.Replies.{model_check, solved_answer, state_of};
 ghost use Rattle.derivation.specs.Examples.{class_number};
 ghost use Rattle.bookfile.specs.Reading.{place_of};
 ghost use Rattle.bookfile.specs.Replies.{read_reply, read_into};
 ghost use Rattle.bookfile.specs.Writing.{plan_checks, plan_out};
-ghost use Rattle.marlinfray.specs.Exported.{reply_words, done_words, count_words, check_words, tight_words, run_words, place_words};
+ghost use Rattle.marlinfray.specs.Exported.{reply_words, refusal_words, done_words, count_words, check_words, tight_words, run_words, place_words};
 
-use bookfile::reading::Stretch;
-use planner::{Class, FirstViolated, Outcome, Read, Rule, Solved, Tally, Tightness, class_of};
+use planner::{Class, Counts, Refusal, Rule, Solved, Tally};
 
-// A reply: what kind it is (0 an answer, 1 an answer against, 2 a refusal), and two numbers.
+// A reply: what kind it is (0 an answer, 1 an answer against, 2 a refusal), and two numbers. The kind is a number because C reads it.
 #[repr(C)]
 #[derive(Drop)]
 pub struct Words {
@@ -28,73 +27,92 @@ pub struct Words {
     pub second: u64,
 }
 
-fn reply(kind: u64, first: u64, second: u64) -> Words
-    ensures { result ≡ record { kind = kind; first = first; second = second } }
-{
-    Words {
-        kind: kind,
-        first: first,
-        second: second,
+impl Words {
+    fn new(kind: u64, first: u64, second: u64) -> Words
+        ensures { result ≡ record { kind = kind; first = first; second = second } }
+    {
+        Words {
+            kind,
+            first,
+            second,
+        }
     }
 }
 
-#[tactic(auto, unfolding(crate::specs::Exported::reply_words, derivation::specs::Replies::outcome_reply))]
-fn outcome_words(r: Outcome) -> Words
-    ensures { result ≡ reply_words done_words (outcome_reply r) }
-{
-    match r {
-        Outcome::Done => reply(0, 0, 0),
-        Outcome::Refused(q) => reply(2, q.number as u64, q.place as u64),
+// Fresh board, hand step, plan writer: it was done.
+impl From<()> for Words {
+    ghost from_gives = { λ done w. w ≡ done_words tt };
+
+    fn from(_done: ()) -> Words {
+        Words::new(0, 0, 0)
     }
 }
 
-#[tactic(auto, unfolding(crate::specs::Exported::reply_words, derivation::specs::Replies::read_of))]
-fn read_words(r: Read) -> Words
-    ensures { result ≡ reply_words count_words (read_of r) }
-{
-    match r {
-        Read::Book(c) => reply(0, c.jobs as u64, c.rules as u64),
-        Read::Refused(q) => reply(2, q.number as u64, q.place as u64),
+// The reader: the job count and the rule count.
+impl From<Counts> for Words {
+    ghost from_gives = { λ counts w. w ≡ count_words counts };
+
+    fn from(counts: Counts) -> Words {
+        Words::new(0, counts.jobs as u64, counts.rules as u64)
     }
 }
 
-#[tactic(auto, unfolding(crate::specs::Exported::reply_words, crate::specs::Exported::check_words, derivation::specs::Replies::model_check_reply))]
-fn violated_words(r: FirstViolated) -> Words
-    ensures { result ≡ reply_words check_words (model_check_reply r) }
-{
-    match r {
-        FirstViolated::Nothing => reply(0, 0, 0),
-        FirstViolated::At(i) => reply(1, i as u64, 0),
-        FirstViolated::Refused(q) => reply(2, q.number as u64, q.place as u64),
+// Kept test: all rules are kept, or the first broken one.
+impl From<Option<usize>> for Words {
+    ghost from_gives = { λ found w. w ≡ check_words (model_check found) };
+
+    fn from(found: Option<usize>) -> Words {
+        match found {
+            None => Words::new(0, 0, 0),
+            Some(i) => Words::new(1, i as u64, 0),
+        }
     }
 }
 
-#[tactic(auto, unfolding(crate::specs::Exported::reply_words, crate::specs::Exported::tight_words, derivation::specs::Replies::tight_reply))]
-fn tightness_words(r: Tightness) -> Words
-    ensures { result ≡ reply_words tight_words (tight_reply r) }
-{
-    match r {
-        Tightness::Tight => reply(0, 1, 0),
-        Tightness::Slack => reply(0, 0, 0),
-        Tightness::Refused(q) => reply(2, q.number as u64, q.place as u64),
+// Tight test: whether the rule is tight.
+impl From<bool> for Words {
+    ghost from_gives = { λ tight w. w ≡ tight_words tight };
+
+    fn from(tight: bool) -> Words {
+        Words::new(0, u64::from(tight), 0)
     }
 }
 
-#[tactic(auto, unfolding(crate::specs::Exported::reply_words, crate::specs::Exported::end_words, derivation::specs::Replies::solved_reply))]
-fn solved_words(r: Solved) -> Words
-    ensures { result ≡ reply_words run_words (solved_reply r) }
-{
-    match r {
-        Solved::Plan(steps) => reply(0, steps, 0),
-        Solved::None(steps, job) => reply(1, steps, job as u64),
-        Solved::Refused(q) => reply(2, q.number as u64, q.place as u64),
+// Bench run: the steps for a plan; the steps and the job that fell for none.
+impl From<Solved> for Words {
+    ghost from_gives = { λ solved w. w ≡ run_words (solved_answer solved) };
+
+    fn from(solved: Solved) -> Words {
+        match solved {
+            Solved::Plan(steps) => Words::new(0, steps, 0),
+            Solved::None(steps, job) => Words::new(1, steps, u64::from(job)),
+        }
     }
 }
 
-fn stretch_words(s: Stretch) -> Words
-    ensures { result ≡ place_words s }
+// A refusal: its number and its place.
+impl From<Refusal> for Words {
+    ghost from_gives = { λ refusal w. w ≡ refusal_words refusal };
+
+    fn from(refusal: Refusal) -> Words {
+        Words::new(2, u64::from(u8::from(refusal.fault)), refusal.place as u64)
+    }
+}
+
+// A call: the words of its answer, or of its refusal.
+impl<T> From<Result<T, Refusal>> for Words
+where
+    Words: From<T>,
 {
-    reply(0, s.at as u64, s.size as u64)
+    ghost from_gives = { λ said w.
+        MatchResult said (λ a. ⟦<Words as From<T>>⟧.from_gives a w) (λ refusal. w ≡ refusal_words refusal) };
+
+    fn from(said: Result<T, Refusal>) -> Words {
+        match said {
+            Ok(answer) => <Words as From<T>>::from(answer),
+            Err(refusal) => <Words as From<Refusal>>::from(refusal),
+        }
+    }
 }
 
 // The reader.
@@ -103,8 +121,7 @@ pub extern "C" fn marlinfray_read_book(file: &[u8], rules: &mut [Rule], reply: &
     ensures { (reply.new ≡ reply_words count_words (read_reply file.now (length rules.old)))
         × (rules.new ≡ read_into file.now (length rules.old) (λ (q : Rule). q) rules.old) }
 {
-    let r = planner::read_book(file, rules);
-    *reply = read_words(r);
+    *reply = planner::read_book(file, rules).into();
 }
 
 // A rule's record, as a stretch of the file.
@@ -112,17 +129,18 @@ pub extern "C" fn marlinfray_read_book(file: &[u8], rules: &mut [Rule], reply: &
 pub extern "C" fn marlinfray_record(file: &[u8], number: usize, reply: &mut Words)
     ensures { reply.new ≡ place_words (place_of file.now number) }
 {
-    let s = bookfile::reading::stretch_of(file, number);
-    *reply = stretch_words(s);
+    let place = bookfile::reading::stretch_of(file, number);
+    *reply = Words::new(0, place.start as u64, place.len() as u64);
 }
 
-// The class of a rule: 0 idle, 1 impossible, 2 one-armed, 3 two-armed.
+// The class of a rule, as a number, since C reads it: 0 idle, 1 impossible, 2 one-armed, 3 two-armed.
 #[tactic(auto, unfolding(derivation::specs::Examples::class_number))]
 #[unsafe(no_mangle)]
 pub extern "C" fn marlinfray_class(x: u16, y: u16, z: u16, k: i32) -> u8
     ensures { result ≡ class_number (class_of (record { x = x; y = y; z = z; k = k })) }
 {
-    match class_of(x, y, z, k) {
+    let r = Rule { x, y, z, k };
+    match r.class() {
         Class::Tautology => 0,
         Class::Contradiction => 1,
         Class::Difference => 2,
@@ -140,8 +158,7 @@ pub extern "C" fn marlinfray_first_violated(
 )
     ensures { reply.new ≡ reply_words check_words (model_check_call n rules.now times.now) }
 {
-    let r = planner::first_violated(n, rules, times);
-    *reply = violated_words(r);
+    *reply = planner::first_violated(n, rules, times).into();
 }
 
 // Tight test.
@@ -155,8 +172,7 @@ pub extern "C" fn marlinfray_is_tight(
 )
     ensures { reply.new ≡ reply_words tight_words (tight_call n rules.now times.now number) }
 {
-    let r = planner::is_tight(n, rules, times, number);
-    *reply = tightness_words(r);
+    *reply = planner::is_tight(n, rules, times, number).into();
 }
 
 // Fresh board.
@@ -165,8 +181,7 @@ pub extern "C" fn marlinfray_initial(n: usize, times: &mut [i32], reply: &mut Wo
     ensures { (reply.new ≡ reply_words done_words (initial_reply n times.old))
         × (times.new ≡ initial_times n times.old) }
 {
-    let r = planner::initial(n, times);
-    *reply = outcome_words(r);
+    *reply = planner::initial(n, times).into();
 }
 
 // Hand step.
@@ -183,9 +198,7 @@ pub extern "C" fn marlinfray_step(
         × (times.new ≡ (step_call n rules.now (state_of times.old tally.old) number).after.times)
         × (tally.new ≡ (step_call n rules.now (state_of times.old tally.old) number).after.tally) }
 {
-    let r = planner::step_by_value(n, rules, times, *tally, number);
-    *tally = r.tally;
-    *reply = outcome_words(r.said);
+    *reply = planner::step(n, rules, times, tally, number).into();
 }
 
 // Bench run.
@@ -194,8 +207,7 @@ pub extern "C" fn marlinfray_solve(n: usize, rules: &[Rule], times: &mut [i32], 
     ensures { (reply.new ≡ reply_words run_words (run_reply n rules.now times.old))
         × (times.new ≡ run_times n rules.now times.old) }
 {
-    let r = planner::solve(n, rules, times);
-    *reply = solved_words(r);
+    *reply = planner::solve(n, rules, times).into();
 }
 
 // Plan writer.
@@ -204,6 +216,5 @@ pub extern "C" fn marlinfray_write_plan(times: &[i32], out: &mut [u8], at: usize
     ensures { (reply.new ≡ reply_words done_words (verdict (plan_checks times.now out.old at)))
         × (out.new ≡ plan_out times.now out.old at) }
 {
-    let r = planner::write_plan(times, out, at);
-    *reply = outcome_words(r);
+    *reply = planner::write_plan(times, out, at).into();
 }

@@ -9,6 +9,7 @@ use lib.Dec.{eqb}
 use lib.IntN.{ℤ, pos, ◌+ℤ◌}
 use lib.Signed.{◌≤ℤ◌, ◌<ℤ◌, lt_z, le_z}
 use borrow.Author.Tests.{eqb-true, eqb-false, not-true}
+use Rattle.std.specs.Int.{from_bool}
 use Rattle.maxatom.specs.Rule.{time_at, max_z, left_side, satisfied}
 use Rattle.maxatom.specs.Class.{negative, tautology, contradiction, difference, disjunctive, class_of, acting_twice, bit_of, ClassMeaning}
 use Rattle.maxatom.specs.ClassNumber.{shape_of, class_at}
@@ -38,6 +39,11 @@ table false false true true h = (refl, refl)
 table false false true false h = (refl, refl)
 table false false false true h = (refl, refl)
 table false false false false h = (refl, refl)
+
+-- the library's number of a test is its bit
+pub bit_is : (b : Bool) → from_bool b ≡ bit_of b
+bit_is true = refl
+bit_is false = refl
 
 module _ (r : Rule) where
   agree : eqb r.z r.x ≡ false → eqb r.z r.y ≡ true → eqb r.x r.y ≡ true → ⊥

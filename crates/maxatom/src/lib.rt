@@ -5,9 +5,9 @@ ghost use Rattle.std.specs.Int.Signed.{lt_z};
 ghost use Rattle.maxatom.specs.Class.{bit_of, class_of};
 ghost use Rattle.maxatom.specs.ClassNumber.{shape_of, class_at};
 
-// A max-atom, max(x, y) + k ≥ z over the times of three jobs. Document 01: a rule.
+// A max-atom, max(x, y) + k ≥ z over the times of three jobs: a rule of a book.
 #[repr(C)]
-#[derive(Clone, Copy)]
+#[derive(Clone, Copy, PartialEq, Eq)]
 pub struct Rule {
     pub x: u16,
     pub y: u16,
@@ -15,8 +15,8 @@ pub struct Rule {
     pub k: i32,
 }
 
-// Document 01: idle, impossible, one-armed, two-armed.
-#[derive(Clone, Copy)]
+// In the words of the formats: idle, impossible, one-armed, two-armed.
+#[derive(Clone, Copy, PartialEq, Eq)]
 pub enum Class {
     Tautology,
     Contradiction,
@@ -24,24 +24,20 @@ pub enum Class {
     Disjunctive,
 }
 
-fn bit(b: bool) -> u8
-    ensures { (result ≡ bit_of b) × (result ≤ 1) }
-{
-    if b { 1 } else { 0 }
-}
-
-// Where z stands: apart from two jobs (0) or from one (1), one of two jobs (2), or all three are one (3).
+// Where z stands: apart from two jobs (0) or from one (1), one of two jobs (2), or all three are one (3). It is a number, since the class
+// number is made of it.
 #[tactic(auto, unfolding(crate::specs::ClassNumber::shape_of))]
-fn shape(x: u16, y: u16, z: u16) -> u8
-    ensures { (result ≡ shape_of x y z) × (result ≤ 3) }
+fn shape(r: Rule) -> u8
+    ensures { (result ≡ shape_of r.x r.y r.z) × (result ≤ 3) }
 {
-    if z == x {
-        return 2 + bit(z == y);
+    if r.z == r.x {
+        return 2 + u8::from(r.z == r.y);
     }
-    if z == y { 2 } else { bit(x == y) }
+    if r.z == r.y { 2 } else { u8::from(r.x == r.y) }
 }
 
-// The class by its number: the shape, and 4 more where the offset is negative.
+// The class by its number: the shape, and 4 more where the offset is negative. It stays a number, since the project asks that a match
+// over a small class number decides and reports the class.
 #[tactic(auto, unfolding(crate::specs::ClassNumber::class_at))]
 fn class_at(c: u8) -> Class
     ensures { result ≡ class_at c }
@@ -57,10 +53,11 @@ fn class_at(c: u8) -> Class
     }
 }
 
-// The class of the rule (x, y, k → z), whatever its numbers.
-pub fn class_of(x: u16, y: u16, z: u16, k: i32) -> Class
-    ensures { result ≡ class_of (record { x = x; y = y; z = z; k = k }) }
-{
-    let c = shape(x, y, z) + 4 * bit(k < 0);
-    class_at(c)
+impl Rule {
+    // The class of the rule, whatever its numbers.
+    pub fn class(self) -> Class
+        ensures { result ≡ class_of self }
+    {
+        class_at(shape(self) + 4 * u8::from(self.k < 0))
+    }
 }

@@ -3,11 +3,14 @@ use mathlib.Core.Path.{◌≡◌, refl, sym, subst}
 use mathlib.Core.Logic.{◌⊎◌, inl, inr}
 use mathlib.Core.Bool.{Bool, true, false, ◌||◌}
 use mathlib.Core.List.{List, []}
-use Prim.Native.Nat.{ℕ, ◌+◌, ◌<◌, ◌≤◌, ◌^◌}
+use Prim.Native.Nat.{ℕ, ◌+◌, ◌<◌, ◌≤◌}
 use native.Mathlib.Decide.{dec_lt}
 use native.Mathlib.Omega.{arith}
-use lib.ListN.{length, get_or}
+use lib.ListN.{get_or}
 use lib.IntN.{ℤ}
+use borrow.Author.Tests.{lt-ltb}
+use Rattle.std.specs.Prelude.{ltb}
+use Rattle.std.proofs.lemmas.Bool.Decides.{nat_tests}
 use Rattle.maxatom.specs.Rule.{time_at}
 use Rattle.maxatom.specs.declared.Rule.{Rule}
 use Rattle.maxatom.specs.Clauses.{Clause, clauses_of}
@@ -15,7 +18,8 @@ use Rattle.maxatom.specs.Jumps.{Walk, done, Traced, start, round, Along}
 use Rattle.maxatom.proofs.Choose.{clash}
 use Rattle.maxatom.proofs.Parts.{narrow, merged, weaken, settled}
 use Rattle.jump.specs.Leaps.{Passed}
-use Rattle.parts.specs.Parts.{label_at, pick, Line, Advanced, Chosen, Ahead, Allowed}
+use Rattle.parts.specs.declared.pace.Pace.{Pace}
+use Rattle.parts.specs.Parts.{part_of, pick, Line, Advanced, Chosen, Ahead, Allowed}
 use Rattle.parts.proofs.Leftovers.{merge, picked_none}
 
 -- the same passes, with something else said of the jobs
@@ -25,67 +29,66 @@ retold h (start said) = start (λ job q. h job _ _ q (said job q))
 retold h (round m w k said) = round (retold h m) w k (λ job q. h job _ _ q (said job q))
 
 -- no part: no rules, and nothing moves
-pub ahead_none : (rules : List Rule) (f : ℤ) (labels periods falls : List ℕ) (times : List ℤ) (passes : ℕ) → Ahead rules f labels periods falls times 0 passes times false 0
+pub ahead_none : (rules : List Rule) (f : ℤ) (paces : List Pace) (times : List ℤ) (passes : ℕ) → Ahead rules f paces times 0 passes times false 0
 unfolding clauses_of
-ahead_none rules f labels periods falls times passes =
+ahead_none rules f paces times passes =
     let walk : Walk f [] times times 0 = done in
-    let still : Traced f [] 0 (λ job. label_at labels job < 0) (Line periods falls times) times times passes 0 =
-    (settled walk).1 passes (λ job. label_at labels job < 0) (Line periods falls times) (λ i l job h. absurd (omega arith)) in
+    let still : Traced f [] 0 (λ job. part_of paces job < 0) (Line paces times) times times passes 0 =
+    (settled walk).1 passes (λ job. part_of paces job < 0) (Line paces times) (λ i l job h. absurd (omega arith)) in
     record {
       least = 0;
       some = λ e. clash e refl;
-      traced = subst (λ (rs : List Rule). Traced f (clauses_of rs) 0 (λ job. label_at labels job < 0) (Line periods falls times) times times passes 0)
-          (sym (picked_none labels times rules)) still;
+      traced = subst (λ (rs : List Rule). Traced f (clauses_of rs) 0 (λ job. part_of paces job < 0) (Line paces times) times times passes 0)
+          (sym (picked_none paces times rules)) still;
     }
 
 -- a part's jobs keep to their lines
-lined : {g period : ℕ} {labels periods falls drops : List ℕ} {times ahead : List ℤ} → Chosen g period labels periods falls times ahead drops → (job i : ℕ) (v : ℤ) → label_at labels job ≡ g →
-    Along period (get_or drops job 0) (time_at ahead job) i v → Line periods falls times job i v
+lined : {g period : ℕ} {paces : List Pace} {drops : List ℕ} {times ahead : List ℤ} → Chosen g period paces times ahead drops → (job i : ℕ) (v : ℤ) → part_of paces job ≡ g →
+    Along period (get_or drops job 0) (time_at ahead job) i v → Line paces times job i v
 lined c job i v l a = rw (c.same_period job l, sym (c.same_drop job l), sym (c.unmoved job l)) a
 
 -- one part more
-module _ {rules : List Rule} {f : ℤ} {labels periods falls drops : List ℕ} {times ahead ahead' : List ℤ} {g passes period s s' : ℕ} {busy busy' : Bool} where
-  pub ahead_next : Ahead rules f labels periods falls times g passes ahead busy s → Chosen g period labels periods falls times ahead drops → {part : List Rule} →
-      part ≡ pick g (g + 1) labels times rules → Advanced part f period drops ahead ahead' passes busy' s' → Ahead rules f labels periods falls times (g + 1) passes ahead' (busy || busy') (s + s')
+module _ {rules : List Rule} {f : ℤ} {paces : List Pace} {drops : List ℕ} {times ahead ahead' : List ℤ} {g passes period s s' : ℕ} {busy busy' : Bool} where
+  pub ahead_next : Ahead rules f paces times g passes ahead busy s → Chosen g period paces times ahead drops → {part : List Rule} →
+      part ≡ pick g (g + 1) paces times rules → Advanced part f period drops ahead ahead' passes busy' s' → Ahead rules f paces times (g + 1) passes ahead' (busy || busy') (s + s')
   ahead_next a c {part = part} e d =
-      let Lines = Line periods falls times in
-      let Low : ℕ → Type 0 = λ job. label_at labels job < g in
-      let Here : ℕ → Type 0 = λ job. label_at labels job ≡ g in
+      let Lines = Line paces times in
+      let Low : ℕ → Type 0 = λ job. part_of paces job < g in
+      let Here : ℕ → Type 0 = λ job. part_of paces job ≡ g in
       let mine : Traced f (clauses_of part) d.least Here Lines ahead ahead' passes s' = retold (lined c) (narrow (λ job q. tt) d.traced) in
-      let other : Traced f (clauses_of (pick g (g + 1) labels times rules)) d.least Here Lines ahead ahead' passes s' =
+      let other : Traced f (clauses_of (pick g (g + 1) paces times rules)) d.least Here Lines ahead ahead' passes s' =
       subst (λ (rs : List Rule). Traced f (clauses_of rs) d.least Here Lines ahead ahead' passes s') e mine in
       record {
         least = a.least + d.least;
         some = some busy refl a.some d.some;
-        traced = narrow (λ job h. either job h (dec_lt (label_at labels job) g))
-            (merged {P = Low} {Q = Here} (λ job p q. omega arith) (λ job. dec_lt (label_at labels job) g) (merge labels times g rules) a.traced other);
+        traced = narrow (λ job h. either job h (dec_lt (part_of paces job) g))
+            (merged {P = Low} {Q = Here} (λ job p q. omega arith) (λ job. dec_lt (part_of paces job) g) (merge paces times g rules) a.traced other);
       }
     where
       some : (b : Bool) → busy ≡ b → {m n : ℕ} → (busy ≡ true → 1 ≤ m) → (busy' ≡ true → 1 ≤ n) → (b || busy') ≡ true → 1 ≤ m + n
       some true q x y t = omega (arith, x q)
       some false q x y t = omega (arith, y t)
 
-      either : (job : ℕ) → label_at labels job < g + 1 → Dec (label_at labels job < g) → (label_at labels job < g) ⊎ (label_at labels job ≡ g)
+      either : (job : ℕ) → part_of paces job < g + 1 → Dec (part_of paces job < g) → (part_of paces job < g) ⊎ (part_of paces job ≡ g)
       either job h (yes l) = inl l
       either job h (no l) = inr (omega arith)
 
+-- steps are made where one of two parts makes some
+both : (s s' : ℕ) → (ltb 0 s || ltb 0 s') ≡ ltb 0 (s + s')
+both s s' = grind (arith, nat_tests)
+
+-- and so where a part is busy if it makes steps
+module _ {rules part : List Rule} {f : ℤ} {paces : List Pace} {drops : List ℕ} {times ahead ahead' : List ℤ} {g passes period s s' : ℕ} where
+  pub ahead_more : Ahead rules f paces times g passes ahead (ltb 0 s) s → Chosen g period paces times ahead drops → part ≡ pick g (g + 1) paces times rules →
+      Advanced part f period drops ahead ahead' passes (ltb 0 s') s' → Ahead rules f paces times (g + 1) passes ahead' (ltb 0 (s + s')) (s + s')
+  ahead_more a c e d = subst (λ (b : Bool). Ahead rules f paces times (g + 1) passes ahead' b (s + s')) (both s s') (ahead_next a c e d)
+
 -- all parts, each with a step in each pass: passes over all rules
-pub ahead_all : {rules : List Rule} {f : ℤ} {labels periods falls : List ℕ} {times ahead : List ℤ} {parts passes s : ℕ} {busy : Bool} →
-    Ahead rules f labels periods falls times parts passes ahead busy s → busy ≡ true → Allowed rules labels periods falls times parts passes → Passed rules f times ahead s
+pub ahead_all : {rules : List Rule} {f : ℤ} {paces : List Pace} {times ahead : List ℤ} {parts passes s : ℕ} {busy : Bool} →
+    Ahead rules f paces times parts passes ahead busy s → busy ≡ true → Allowed rules paces times parts passes → Passed rules f times ahead s
 ahead_all {f = f} {times = times} {ahead = ahead} {passes = passes} {s = s} a b ok =
     record { passes = passes; passing = weaken (a.some b) (ok.passing f a.least times ahead s a.traced) }
 
--- the parts before g are advanced; the lengths are as they were
-pub record Advancing (rules : List Rule) (f : ℤ) (labels periods falls : List ℕ) (times : List ℤ) (parts passes : ℕ) (pxs₀ pys₀ pzs₀ : List ℕ) (pks₀ : List ℤ) (drops₀ : List ℕ) (near₀ far₀ ahead₀ : List ℤ)
-    (pxs pys pzs : List ℕ) (pks : List ℤ) (drops : List ℕ) (near far ahead : List ℤ) (busy : Bool) (s g : ℕ) : Type 0 where
-  pub low : g ≤ parts
-  pub few : s < 2 ^ 63
-  pub xlong : length pxs ≡ length pxs₀
-  pub ylong : length pys ≡ length pys₀
-  pub zlong : length pzs ≡ length pzs₀
-  pub klong : length pks ≡ length pks₀
-  pub drops_size : length drops ≡ length drops₀
-  pub near_size : length near ≡ length near₀
-  pub far_size : length far ≡ length far₀
-  pub ahead_size : length ahead ≡ length ahead₀
-  pub goes : Ahead rules f labels periods falls times g passes ahead busy s
+pub ahead_steps : {rules : List Rule} {f : ℤ} {paces : List Pace} {times ahead : List ℤ} {parts passes s : ℕ} →
+    Ahead rules f paces times parts passes ahead (ltb 0 s) s → 1 ≤ s → Allowed rules paces times parts passes → Passed rules f times ahead s
+ahead_steps {s = s} a h ok = ahead_all a (lt-ltb 0 s (omega arith)) ok

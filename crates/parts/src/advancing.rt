@@ -1,46 +1,22 @@
 // Each part advanced for itself, all by as many passes.
-ghost use Rattle.std.specs.Prelude.{◌≡◌, Bool, true, false, ◌||◌, ℕ, ◌+◌, ◌<◌, ◌≤◌, ◌^◌, length, get_or, ℤ, pos, ◌+ℤ◌, ◌≤ℤ◌};
+ghost use Rattle.std.specs.Prelude.{◌≡◌, true, ℕ, ltb, ◌<◌, ◌≤◌, ◌^◌, length, get_or, pos, ◌+ℤ◌, ◌≤ℤ◌, IfSome, MatchOption};
 ghost use Rattle.maxatom.specs.Rule.{time_at};
-ghost use Rattle.table.specs.Columns.{rules_of, Columns};
 ghost use Rattle.solver.specs.Rules.{NamedAll};
-ghost use Rattle.jump.specs.Leaps.{Sized, Passed};
+ghost use Rattle.jump.specs.Leaps.{Passed};
 ghost use Rattle.parts.specs.Parts.{Advanced, Chosen, Ahead};
 
+use crate::NO_RULE;
 use crate::lines::all_allow;
+use crate::pace::Pace;
 use crate::trimming::fill;
-use jump::{copy, earlier, leap, plain_pass, plain_passes, wide};
-
-// What an advance made: whether all its passes; whether each has a step; and the steps.
-#[derive(Clone, Copy)]
-pub struct Progress {
-    pub made: bool,
-    pub busy: bool,
-    pub steps: u64,
-}
-
-fn not_made() -> Progress
-    ensures made_value { result.made ≡ false }
-    ensures steps_value { result.steps ≡ 0 }
-{
-    Progress {
-        made: false,
-        busy: false,
-        steps: 0,
-    }
-}
+use jump::{Room, earlier, leap, plain_pass, plain_passes};
+use maxatom::Rule;
 
 // No job falls.
 fn at_rest(drops: &[u32]) -> bool
     ensures { result ≡ true → (job : ℕ) → get_or drops.now job 0 ≡ 0 }
 {
-    let mut i = 0;
-    while i < drops.len() {
-        if 0 < drops[i] {
-            return false;
-        }
-        i += 1;
-    }
-    true
+    drops.iter().all(|drop| *drop == 0)
 }
 
 // No job has fallen more than its drop.
@@ -48,269 +24,155 @@ fn within(from: &[i32], to: &[i32], drops: &[u32]) -> bool
     requires { (length to.now ≡ length from.now) × (length drops.now ≡ length from.now) }
     ensures { result ≡ true → (job : ℕ) → job < length from.now → time_at from.now job ≤ℤ (time_at to.now job +ℤ pos (get_or drops.now job 0)) }
 {
-    let mut i = 0;
-    while i < from.len() {
-        if (to[i] as i64) < earlier(from[i], wide(drops[i])) {
+    for (i, t) in from.iter().enumerate() {
+        if i64::from(to[i]) < earlier(*t, u64::from(drops[i])) {
             return false;
         }
-        i += 1;
     }
     true
 }
 
-// So many passes over the rules of a part: repetitions of its period at once, and the rest one by one.
+// Makes `passes` passes over the rules of a part: repetitions of its period at once, and the rest one by one. Answers their steps, or none
+// where a test fails.
+#[tactic(auto, using(crate::proofs::Advances::advanced_still))]
 fn advance(
-    pxs: &[u16],
-    pys: &[u16],
-    pzs: &[u16],
-    pks: &[i32],
-    m: usize,
+    rules: &[Rule],
     f: i32,
     period: usize,
     passes: u64,
     drops: &[u32],
-    near: &mut [i32],
-    far: &mut [i32],
+    room: &mut Room<256>,
     times: &mut [i32],
-) -> Progress
-    requires columns { Columns pxs.now pys.now pzs.now pks.now m }
-    requires named_all { NamedAll (rules_of pxs.now pys.now pzs.now pks.now m) (length times.old) (length times.old) }
-    requires sized { Sized (length times.old) drops.now near.old far.old }
-    ensures advanced { result.made ≡ true → Advanced (rules_of pxs.now pys.now pzs.now pks.now m) f period drops.now times.old times.new passes result.busy result.steps }
-    ensures steps_bound { result.steps < 2 ^ 62 }
+) -> Option<u64>
+    requires named_all { NamedAll rules.now (length times.old) (length times.old) }
+    requires few { length times.old ≤ 256 }
+    requires drops_len { length drops.now ≡ length times.old }
+    ensures advanced { IfSome result (λ s. Advanced rules.now f period drops.now times.old times.new passes (ltb 0 s) s) }
+    ensures steps_bound { IfSome result (λ s. s < 2 ^ 62) }
 {
     if period < 1 {
-        return not_made();
+        return None;
     }
     if at_rest(drops) {
         if 1 < period {
-            return not_made();
+            return None;
         }
-        let p = plain_pass(pxs, pys, pzs, pks, m, f, times);
-        let fell = p.fell;
-        if fell {
-            return not_made();
-        }
-        if 0 < p.steps {
-            return not_made();
-        }
-        return Progress {
-            made: true,
-            busy: false,
-            steps: 0,
-        };
+        let pass = plain_pass(rules, f, times)?;
+        return (pass.steps == 0).then_some(0);
     }
     let q = passes / (period as u64);
     let rest = passes % (period as u64);
     if q < 2 {
-        return not_made();
+        return None;
     }
-    let s = leap(
-        pxs,
-        pys,
-        pzs,
-        pks,
-        m,
-        f,
-        period,
-        q - 1,
-        drops,
-        near,
-        far,
-        times,
-    );
-    if s < 1 {
-        return not_made();
-    }
+    let s = leap(rules, f, period, q - 1, drops, room, times)?;
     if 2305843009213693952 <= s {
-        return not_made();
+        return None;
     }
-    copy(times, near);
-    let e = plain_passes(pxs, pys, pzs, pks, m, f, rest, times);
-    let made = e.made;
-    if !made {
-        return not_made();
+    let n = times.len();
+    let near = &mut room.near[..];
+    let near = &mut near[..n];
+    near.copy_from_slice(times);
+    let e = plain_passes(rules, f, rest, times)?;
+    if 2305843009213693952 <= e || !within(near, times, drops) {
+        return None;
     }
-    if 2305843009213693952 <= e.steps {
-        return not_made();
-    }
-    if !within(near, times, drops) {
-        return not_made();
-    }
-    Progress {
-        made: true,
-        busy: true,
-        steps: s + e.steps,
-    }
+    Some(s + e)
 }
 
-// The period of a part's first job.
-fn part_period(part: u16, labels: &[u16], periods: &[u32]) -> u32
-    requires { length periods.now ≡ length labels.now }
-{
-    let mut i = 0;
-    while i < labels.len() {
-        if labels[i] == part {
-            return periods[i];
+// The period of a part's first job, or 1 for a part of no job.
+fn part_period(part: u16, paces: &[Pace]) -> u32 {
+    for pace in paces {
+        if pace.part == part {
+            return pace.period;
         }
-        i += 1;
     }
     1
 }
 
-// The drops of a part's jobs, and 0 for the others; false where the period is not that of all of them, or one has moved.
-fn choose(
-    part: u16,
-    period: u32,
-    labels: &[u16],
-    periods: &[u32],
-    falls: &[u32],
-    times: &[i32],
-    ahead: &[i32],
-    drops: &mut [u32],
-) -> bool
-    requires labels_len { (length labels.now ≡ length times.now) × (length periods.now ≡ length times.now) }
-    requires falls_len { (length falls.now ≡ length times.now) × (length ahead.now ≡ length times.now) }
+// Fills in the drops of a part's jobs, and 0 for the others. Answers the part's period, or none where a job of it has another or has moved.
+fn choose(part: u16, paces: &[Pace], times: &[i32], ahead: &[i32], drops: &mut [u32]) -> Option<u32>
+    requires paces_len { (length paces.now ≡ length times.now) × (length ahead.now ≡ length times.now) }
     requires drops_len { length drops.old ≡ length times.now }
-    ensures { result ≡ true → Chosen part period labels.now periods.now falls.now times.now ahead.now drops.new }
+    ensures { IfSome result (λ period. Chosen part period paces.now times.now ahead.now drops.new) }
 {
-    let mut i = 0;
-    while i < times.len() {
-        if labels[i] == part {
-            if ahead[i] != times[i] {
-                return false;
+    let period = part_period(part, paces);
+    for (i, pace) in paces.iter().enumerate() {
+        if pace.part == part {
+            if ahead[i] != times[i] || pace.period != period {
+                return None;
             }
-            if periods[i] != period {
-                return false;
-            }
-            drops[i] = falls[i];
-            i += 1;
+            drops[i] = pace.fall;
         } else {
             drops[i] = 0;
-            i += 1;
         }
     }
-    true
+    Some(period)
 }
 
-fn either(a: bool, b: bool) -> bool
-    ensures { result ≡ (a || b) }
-{
-    if a { true } else { b }
-}
-
-// So many passes over each part, for itself, from the times ahead.
+// Makes `passes` passes over each part, for itself, which take the times to those ahead. Answers the steps of all, or none where a test
+// fails.
+#[tactic(auto, using(crate::proofs::Leftovers::part_jobs, crate::proofs::Sides::ahead_none, crate::proofs::Sides::ahead_more))]
 fn advance_parts(
-    xs: &[u16],
-    ys: &[u16],
-    zs: &[u16],
-    ks: &[i32],
-    count: usize,
+    rules: &[Rule],
     f: i32,
     parts: u16,
-    labels: &[u16],
-    periods: &[u32],
-    falls: &[u32],
+    paces: &[Pace],
     passes: u64,
     times: &[i32],
-    pxs: &mut [u16],
-    pys: &mut [u16],
-    pzs: &mut [u16],
-    pks: &mut [i32],
-    drops: &mut [u32],
-    near: &mut [i32],
-    far: &mut [i32],
+    room: &mut Room<256>,
     ahead: &mut [i32],
-) -> Progress
-    requires columns { Columns xs.now ys.now zs.now ks.now count }
-    requires named_all { NamedAll (rules_of xs.now ys.now zs.now ks.now count) (length times.now) (length times.now) }
-    requires labels_len { (length labels.now ≡ length times.now) × (length periods.now ≡ length times.now) }
-    requires falls_len { (length falls.now ≡ length times.now) × (length ahead.old ≡ length times.now) }
-    requires columns_2 { Columns pxs.old pys.old pzs.old pks.old count }
-    requires sized { Sized (length times.now) drops.old near.old far.old }
-    ensures ahead { result.made ≡ true → Ahead (rules_of xs.now ys.now zs.now ks.now count) f labels.now periods.now falls.now times.now parts passes ahead.new result.busy result.steps }
-    ensures steps_bound { result.steps < 2 ^ 63 }
+) -> Option<u64>
+    requires named_all { NamedAll rules.now (length times.now) (length times.now) }
+    requires sizes { (length rules.now ≤ 1024) × (length times.now ≤ 256) }
+    requires paces_len { (length paces.now ≡ length times.now) × (length ahead.old ≡ length times.now) }
+    ensures ahead { IfSome result (λ s. Ahead rules.now f paces.now times.now parts passes ahead.new (ltb 0 s) s) }
+    ensures steps_bound { IfSome result (λ s. s < 2 ^ 63) }
 {
-    copy(times, ahead);
-    let mut busy = false;
+    let n = times.len();
+    // There is no heap: the rules of a part are the first `m` of an array.
+    let mut picked = [NO_RULE; 1024];
+    // There is no heap: one drop for each of the most jobs.
+    let mut drops: [u32; 256] = [0; 256];
+    let drops = &mut drops[..n];
+    ahead.copy_from_slice(times);
     let mut s: u64 = 0;
-    let mut g: u16 = 0;
-    while g < parts {
-        let m = fill(xs, ys, zs, ks, count, labels, times, g, pxs, pys, pzs, pks);
-        let p = part_period(g, labels, periods);
-        if !choose(g, p, labels, periods, falls, times, ahead, drops) {
-            return not_made();
-        }
-        let a = advance(
-            pxs, pys, pzs, pks, m, f, p as usize, passes, drops, near, far, ahead,
-        );
-        let made = a.made;
-        if !made {
-            return not_made();
-        }
+    for part in 0..parts {
         if 4611686018427387904 <= s {
-            return not_made();
+            return None;
         }
-        s += a.steps;
-        busy = either(busy, a.busy);
-        g += 1;
+        let period = choose(part, paces, times, ahead, drops)?;
+        let m = fill(rules, paces, times, part, &mut picked[..]);
+        s += advance(&picked[..m], f, period as usize, passes, drops, room, ahead)?;
     }
-    Progress {
-        made: true,
-        busy: busy,
-        steps: s,
-    }
+    Some(s)
 }
 
-// So many passes over all rules, by their parts: their steps, or 0 and no change.
+// Makes `passes` passes over all rules, by their parts: their steps, or none and no change.
+#[tactic(auto, using(crate::proofs::Sides::ahead_steps))]
 pub fn ahead_by(
-    xs: &[u16],
-    ys: &[u16],
-    zs: &[u16],
-    ks: &[i32],
-    count: usize,
+    rules: &[Rule],
     f: i32,
     parts: u16,
-    labels: &[u16],
-    periods: &[u32],
-    falls: &[u32],
+    paces: &[Pace],
     passes: u64,
-    pxs: &mut [u16],
-    pys: &mut [u16],
-    pzs: &mut [u16],
-    pks: &mut [i32],
-    drops: &mut [u32],
-    near: &mut [i32],
-    far: &mut [i32],
-    ahead: &mut [i32],
+    room: &mut Room<256>,
     times: &mut [i32],
-) -> u64
-    requires columns { Columns xs.now ys.now zs.now ks.now count }
-    requires named_all { NamedAll (rules_of xs.now ys.now zs.now ks.now count) (length times.old) (length times.old) }
-    requires labels_len { (length labels.now ≡ length times.old) × (length periods.now ≡ length times.old) }
-    requires falls_len { (length falls.now ≡ length times.old) × (length ahead.old ≡ length times.old) }
-    requires columns_2 { Columns pxs.old pys.old pzs.old pks.old count }
-    requires sized { Sized (length times.old) drops.old near.old far.old }
-    ensures passed { Passed (rules_of xs.now ys.now zs.now ks.now count) f times.old times.new result }
-    ensures upper_bound { result < 2 ^ 63 }
+) -> Option<u64>
+    requires named_all { NamedAll rules.now (length times.old) (length times.old) }
+    requires sizes { (length rules.now ≤ 1024) × (length times.old ≤ 256) }
+    requires paces_len { length paces.now ≡ length times.old }
+    ensures passed { MatchOption result (times.new ≡ times.old) (λ s. Passed rules.now f times.old times.new s) }
+    ensures steps_bound { IfSome result (λ s. s < 2 ^ 63) }
 {
-    let a = advance_parts(
-        xs, ys, zs, ks, count, f, parts, labels, periods, falls, passes, times, pxs, pys, pzs, pks,
-        drops, near, far, ahead,
-    );
-    let made = a.made;
-    let busy = a.busy;
-    if !made {
-        return 0;
+    let n = times.len();
+    // There is no heap: one time for each of the most jobs.
+    let mut ahead: [i32; 256] = [0; 256];
+    let ahead = &mut ahead[..n];
+    let steps = advance_parts(rules, f, parts, paces, passes, times, room, ahead)?;
+    if steps < 1 || !all_allow(rules, parts, paces, times, passes) {
+        return None;
     }
-    if !busy {
-        return 0;
-    }
-    if !all_allow(
-        xs, ys, zs, ks, count, parts, labels, periods, falls, times, passes,
-    ) {
-        return 0;
-    }
-    copy(ahead, times);
-    a.steps
+    times.copy_from_slice(ahead);
+    Some(steps)
 }

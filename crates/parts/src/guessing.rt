@@ -1,445 +1,274 @@
 // Which parts, periods and passes to try: a guess, which needs no proof, since the advance and the lines decide.
-ghost use Rattle.std.specs.Prelude.{◌≡◌, Bool, true, ℕ, ◌+◌, ◌*◌, ◌<◌, ◌≤◌, ◌^◌, length, ℤ};
-ghost use Rattle.table.specs.Columns.{rules_of, Columns};
+ghost use Rattle.std.specs.Prelude.{◌≡◌, ◌<◌, ◌≤◌, length};
 ghost use Rattle.solver.specs.Rules.{Named, NamedAll};
 
+use crate::NO_RULE;
 use crate::lines::all_allow;
+use crate::pace::Pace;
 use crate::trimming::fill;
-use jump::{copy, fall, mark, period, plain_pass, plain_passes, wide};
+use jump::{fall, later, mark, period, plain_pass, plain_passes};
 use maxatom::Rule;
 use solver::left_side;
-use table::rule_at;
 
-// The first of the jobs joined with one.
-fn root(roots: &[u16], job: usize) -> usize
+// More passes than are ever tried at once.
+const MOST_PASSES: u64 = 1073741823;
+
+// The first of the jobs joined with one. The forest of joined jobs is kept by number, each job with one that it is joined with, since
+// there is no heap for nodes.
+fn root(roots: &[usize], job: usize) -> usize
     requires { job < length roots.now }
     ensures { result < length roots.now }
 {
-    let mut a = job;
-    let mut i = 0;
-    while i < roots.len() {
-        let b = roots[a] as usize;
-        if roots.len() <= b {
-            return a;
+    let mut first = job;
+    for _ in roots {
+        let next = roots[first];
+        if next == first || roots.len() <= next {
+            return first;
         }
-        if b == a {
-            return a;
-        }
-        a = b;
-        i += 1;
+        first = next;
     }
-    a
+    first
 }
 
 // Joins two jobs and those joined with them.
-fn join(roots: &mut [u16], a: usize, b: usize)
+fn join(roots: &mut [usize], a: usize, b: usize)
     requires { (a < length roots.old) × (b < length roots.old) }
 {
     let p = root(roots, a);
     let q = root(roots, b);
     if p < q {
-        roots[q] = (p % 65536) as u16;
+        roots[q] = p;
     } else {
-        roots[p] = (q % 65536) as u16;
+        roots[p] = q;
     }
 }
 
-// The later of two jobs.
-fn later_job(x: usize, y: usize, times: &[i32]) -> usize
+// Two jobs, the earlier of them first.
+fn in_order(x: usize, y: usize, times: &[i32]) -> (usize, usize)
     requires { (x < length times.now) × (y < length times.now) }
-    ensures { result < length times.now }
+    ensures { (result.0 < length times.now) × (result.1 < length times.now) }
 {
-    if times[x] < times[y] { y } else { x }
+    if times[x] < times[y] { (x, y) } else { (y, x) }
 }
 
-// The earlier of two jobs.
-fn earlier_job(x: usize, y: usize, times: &[i32]) -> usize
-    requires { (x < length times.now) × (y < length times.now) }
-    ensures { result < length times.now }
-{
-    if times[x] < times[y] { x } else { y }
-}
-
-// A time and so many minutes more.
-fn raised(t: i32, d: u32) -> i64 {
-    (t as i64) + (d as i64)
-}
-
-// A rule that may soon be violated: its later arm has lately fallen by more than the rule leaves free.
-fn is_active(r: Rule, was: &[i32], times: &[i32]) -> bool
-    requires named { Named r (length times.now) }
-    requires was_len { length was.now ≡ length times.now }
-{
-    let a = later_job(r.x as usize, r.y as usize, times);
-    let z = r.z as usize;
-    let d = fall(was[a], times[a]);
-    if d < 1 {
-        return false;
-    }
-    left_side(r, times) < raised(times[z], d)
-}
-
-// Joins the jobs of a rule that may soon be violated.
-fn join_rule(r: Rule, was: &[i32], times: &[i32], roots: &mut [u16])
+// Joins the jobs of a rule that may soon be violated: its later arm has lately fallen by more than the rule leaves free. The earlier arm
+// is joined too where the later one has lately fallen by more than lies between them.
+fn join_rule(r: Rule, was: &[i32], times: &[i32], roots: &mut [usize])
     requires named { Named r (length times.now) }
     requires was_len { (length was.now ≡ length times.now) × (length roots.old ≡ length times.now) }
 {
-    if is_active(r, was, times) {
-        let a = later_job(r.x as usize, r.y as usize, times);
-        let o = earlier_job(r.x as usize, r.y as usize, times);
-        let gap = fall(times[a], times[o]);
-        let d = fall(was[a], times[a]);
-        join(roots, a, r.z as usize);
-        if gap < d {
-            join(roots, o, r.z as usize);
+    let z = usize::from(r.z);
+    let (early, late) = in_order(usize::from(r.x), usize::from(r.y), times);
+    let fallen = fall(was[late], times[late]);
+    if 0 < fallen && left_side(r, times) < i64::from(times[z]) + i64::from(fallen) {
+        join(roots, late, z);
+        if fall(times[late], times[early]) < fallen {
+            join(roots, early, z);
         }
     }
 }
 
-// Each job by itself.
-fn separate(roots: &mut [u16]) {
-    let mut i = 0;
-    while i < roots.len() {
-        roots[i] = (i % 65536) as u16;
-        i += 1;
-    }
-}
-
-// A label for each job: one for each group joined whose first job has fallen lately, else 0: how many.
-fn number(roots: &[u16], was: &[i32], times: &[i32], labels: &mut [u16]) -> u16
+// Numbers the groups of joined jobs whose first job has fallen lately from 1 upward, as the parts of their jobs; the others are in part 0.
+// Answers how many parts there are.
+fn number(roots: &[usize], was: &[i32], times: &[i32], paces: &mut [Pace]) -> u16
     requires was_len { (length was.now ≡ length times.now) × (length roots.now ≡ length times.now) }
-    requires labels_len { length labels.old ≡ length times.now }
+    requires paces_len { length paces.old ≡ length times.now }
 {
-    let mut next: u16 = 1;
-    let mut i = 0;
-    while i < times.len() {
-        let a = root(roots, i);
-        if a < i {
-            labels[i] = labels[a];
-            i += 1;
+    let mut parts: u16 = 1;
+    for (job, time) in times.iter().enumerate() {
+        let first = root(roots, job);
+        if first < job {
+            paces[job].part = paces[first].part;
+        } else if *time < was[job] {
+            paces[job].part = parts;
+            parts = parts.saturating_add(1);
         } else {
-            if times[i] < was[i] {
-                labels[i] = next;
-                next = more(next);
-                i += 1;
-            } else {
-                labels[i] = 0;
-                i += 1;
-            }
+            paces[job].part = 0;
         }
     }
-    next
+    parts
 }
 
-fn more(n: u16) -> u16 {
-    if n < 65535 { n + 1 } else { n }
-}
-
-// The parts: jobs that a rule which may soon be violated joins.
-pub fn label(
-    xs: &[u16],
-    ys: &[u16],
-    zs: &[u16],
-    ks: &[i32],
-    count: usize,
-    was: &[i32],
-    times: &[i32],
-    roots: &mut [u16],
-    labels: &mut [u16],
-) -> u16
-    requires columns { Columns xs.now ys.now zs.now ks.now count }
-    requires named_all { NamedAll (rules_of xs.now ys.now zs.now ks.now count) (length times.now) (length times.now) }
-    requires was_len { (length was.now ≡ length times.now) × (length roots.old ≡ length times.now) }
-    requires labels_len { length labels.old ≡ length times.now }
+// Finds the parts: jobs that a rule which may soon be violated joins. Answers how many there are.
+pub fn label(rules: &[Rule], was: &[i32], times: &[i32], paces: &mut [Pace]) -> u16
+    requires named_all { NamedAll rules.now (length times.now) (length times.now) }
+    requires few { length times.now ≤ 256 }
+    requires was_len { (length was.now ≡ length times.now) × (length paces.old ≡ length times.now) }
 {
-    separate(roots);
-    let mut i = 0;
-    while i < count {
-        join_rule(rule_at(xs, ys, zs, ks, i), was, times, roots);
-        i += 1;
+    let n = times.len();
+    let mut roots: [usize; 256] = [0; 256];
+    let roots = &mut roots[..n];
+    for (job, root) in roots.iter_mut().enumerate() {
+        *root = job;
     }
-    number(roots, was, times, labels)
+    for r in rules {
+        join_rule(*r, was, times, roots);
+    }
+    number(roots, was, times, paces)
 }
 
-// How many passes until a job falls below the floor, if it goes on as it has in the last 256.
+// The passes until a job falls below the floor, if each job goes on as it has in the last 256.
 pub fn passes_left(f: i32, was: &[i32], times: &[i32]) -> u64
     requires { length was.now ≡ length times.now }
 {
-    let mut most: u64 = 1073741823;
-    let mut i = 0;
-    while i < times.len() {
-        let d = fall(was[i], times[i]);
-        if 0 < d {
-            most = least(most, wide(fall(times[i], f)) * 256 / wide(d));
-            i += 1;
-        } else {
-            i += 1;
+    let mut most = MOST_PASSES;
+    for (before, now) in was.iter().zip(times) {
+        let fallen = fall(*before, *now);
+        if 0 < fallen {
+            most = most.min(u64::from(fall(*now, f)) * 256 / u64::from(fallen));
         }
     }
     most
 }
 
-fn least(a: u64, b: u64) -> u64 {
-    if a < b { a } else { b }
+// What measuring a part takes: the marks of its passes, its rules, and times to pass over. They are arrays with their length beside them,
+// since there is no heap.
+#[derive(Drop)]
+struct Probe {
+    marks: [u16; 16384],
+    picked: [Rule; 1024],
+    near: [i32; 256],
 }
 
-// The next look, after so many passes.
-fn next_look(seen: usize, look: usize) -> usize {
-    if seen < look {
-        return look;
-    }
-    if look < 1048576 { look * 2 } else { look }
-}
-
-// The period that the marks show, if it is time to look.
-fn look_for(marks: &[u16], seen: usize, look: usize) -> usize
-    requires { seen ≤ length marks.now }
-{
-    if seen < look {
-        return 0;
-    }
-    period(marks, seen, 65535)
-}
-
-// The passes that repeat in a part, 1 for a part at rest, or 0 where it takes too long to tell. The near times are to be the times.
+// The passes that repeat in a part, 1 for a part at rest, or none where it takes too long to tell. The near times are to be the times.
 fn find_period(
-    pxs: &[u16],
-    pys: &[u16],
-    pzs: &[u16],
-    pks: &[i32],
-    m: usize,
+    rules: &[Rule],
     f: i32,
     patience: usize,
     marks: &mut [u16],
     near: &mut [i32],
-) -> usize
-    requires columns { Columns pxs.now pys.now pzs.now pks.now m }
-    requires named_all { NamedAll (rules_of pxs.now pys.now pzs.now pks.now m) (length near.old) (length near.old) }
+) -> Option<u32>
+    requires { NamedAll rules.now (length near.old) (length near.old) }
 {
     let mut look: usize = 16;
-    let mut seen: usize = 0;
-    while seen < patience {
-        if marks.len() <= seen {
-            return 0;
-        }
-        let p = plain_pass(pxs, pys, pzs, pks, m, f, near);
-        let fell = p.fell;
-        if fell {
-            return 0;
-        }
-        if p.steps < 1 {
-            return if seen < 1 { 1 } else { 0 };
+    // An index: the marks are written, and those written so far are lent.
+    for seen in 0..patience.min(marks.len()) {
+        let p = plain_pass(rules, f, near)?;
+        if p.steps == 0 {
+            return (seen == 0).then_some(1);
         }
         marks[seen] = mark(p.steps, p.last, p.minutes);
-        seen += 1;
-        let q = look_for(marks, seen, look);
-        if 0 < q {
-            return q;
+        if look <= seen + 1 {
+            if let Some(passes) = period(&marks[..seen + 1], 65535) {
+                return u32::try_from(passes).ok();
+            }
+            look = later(look);
         }
-        look = next_look(seen, look);
     }
-    0
+    None
 }
 
-// How many passes leave a job above the floor that falls so much in each period.
-fn allowed_by(f: i32, t: i32, d: u32, period: usize) -> u64 {
-    if d < 1 {
-        return 1073741823;
+// The passes that leave a job at or above the floor, where it falls by `fallen` minutes in each period; none where it has no room for two
+// periods.
+fn allowed_by(f: i32, t: i32, fallen: u32, period: u32) -> Option<u64> {
+    if fallen == 0 {
+        return Some(MOST_PASSES);
     }
-    let rounds = wide(fall(t, f)) / wide(d);
+    let rounds = u64::from(fall(t, f)) / u64::from(fallen);
     if rounds < 2 {
-        return 0;
+        return None;
     }
-    if 65536 <= period {
-        return 0;
-    }
-    least(1073741823, (rounds - 1) * (period as u64))
+    Some(MOST_PASSES.min((rounds - 1).saturating_mul(u64::from(period))))
 }
 
-// Notes the period and the drops of a part's jobs: how many passes leave them above the floor.
+// Notes the period of a part's jobs, and their falls from the times to the near times. Answers the passes that leave them at or above the
+// floor, or none.
 fn note(
     part: u16,
-    p: usize,
+    period: u32,
     f: i32,
-    labels: &[u16],
     near: &[i32],
     times: &[i32],
-    periods: &mut [u32],
-    falls: &mut [u32],
-) -> u64
-    requires labels_len { (length labels.now ≡ length times.now) × (length near.now ≡ length times.now) }
-    requires periods_len { (length periods.old ≡ length times.now) × (length falls.old ≡ length times.now) }
+    paces: &mut [Pace],
+) -> Option<u64>
+    requires { (length near.now ≡ length times.now) × (length paces.old ≡ length times.now) }
 {
-    let mut most: u64 = 1073741823;
-    let mut i = 0;
-    while i < times.len() {
-        if labels[i] == part {
-            let d = fall(times[i], near[i]);
-            periods[i] = (p % 4294967296) as u32;
-            falls[i] = d;
-            most = least(most, allowed_by(f, times[i], d, p));
-            i += 1;
-        } else {
-            i += 1;
+    let mut most = MOST_PASSES;
+    for (job, pace) in paces.iter_mut().enumerate() {
+        if pace.part == part {
+            let fallen = fall(times[job], near[job]);
+            pace.period = period;
+            pace.fall = fallen;
+            most = most.min(allowed_by(f, times[job], fallen, period)?);
         }
     }
-    most
+    Some(most)
 }
 
-// Measures a part: how many passes leave it above the floor, or 0 where it does not repeat.
+// Measures a part: the passes that leave it at or above the floor, or none where it does not repeat.
+#[tactic(auto, using(crate::proofs::Leftovers::part_jobs))]
 fn measure_part(
-    xs: &[u16],
-    ys: &[u16],
-    zs: &[u16],
-    ks: &[i32],
-    count: usize,
+    rules: &[Rule],
     f: i32,
     patience: usize,
     part: u16,
-    labels: &[u16],
-    marks: &mut [u16],
-    pxs: &mut [u16],
-    pys: &mut [u16],
-    pzs: &mut [u16],
-    pks: &mut [i32],
-    near: &mut [i32],
+    probe: &mut Probe,
     times: &[i32],
-    periods: &mut [u32],
-    falls: &mut [u32],
-) -> u64
-    requires columns { Columns xs.now ys.now zs.now ks.now count }
-    requires named_all { NamedAll (rules_of xs.now ys.now zs.now ks.now count) (length times.now) (length times.now) }
-    requires labels_len { (length labels.now ≡ length times.now) × (length near.old ≡ length times.now) }
-    requires periods_len { (length periods.old ≡ length times.now) × (length falls.old ≡ length times.now) }
-    requires columns_2 { Columns pxs.old pys.old pzs.old pks.old count }
+    paces: &mut [Pace],
+) -> Option<u64>
+    requires named_all { NamedAll rules.now (length times.now) (length times.now) }
+    requires sizes { (length rules.now ≤ 1024) × (length times.now ≤ 256) }
+    requires paces_len { length paces.old ≡ length times.now }
 {
-    let m = fill(
-        xs, ys, zs, ks, count, labels, times, part, pxs, pys, pzs, pks,
-    );
-    copy(times, near);
-    let p = find_period(pxs, pys, pzs, pks, m, f, patience, marks, near);
-    if p < 1 {
-        return 0;
-    }
-    copy(times, near);
-    plain_passes(pxs, pys, pzs, pks, m, f, p as u64, near);
-    note(part, p, f, labels, near, times, periods, falls)
+    let n = times.len();
+    let Probe {
+        marks,
+        picked,
+        near,
+    } = probe;
+    let marks = &mut marks[..];
+    let picked = &mut picked[..];
+    let near = &mut near[..];
+    let near = &mut near[..n];
+    // There is no heap: the rules of the part are the first `m` of an array.
+    let m = fill(rules, paces, times, part, picked);
+    let picked = &picked[..m];
+    near.copy_from_slice(times);
+    let period = find_period(picked, f, patience, marks, near)?;
+    near.copy_from_slice(times);
+    plain_passes(picked, f, u64::from(period), near);
+    note(part, period, f, near, times, paces)
 }
 
-// Measures each part: how many passes leave all above the floor, or 0 where a part does not repeat.
+// Measures each part: the passes that leave all at or above the floor, or none where a part does not repeat.
 pub fn measure(
-    xs: &[u16],
-    ys: &[u16],
-    zs: &[u16],
-    ks: &[i32],
-    count: usize,
+    rules: &[Rule],
     f: i32,
     patience: usize,
     parts: u16,
-    labels: &[u16],
-    marks: &mut [u16],
-    pxs: &mut [u16],
-    pys: &mut [u16],
-    pzs: &mut [u16],
-    pks: &mut [i32],
-    near: &mut [i32],
     times: &[i32],
-    periods: &mut [u32],
-    falls: &mut [u32],
-) -> u64
-    requires columns { Columns xs.now ys.now zs.now ks.now count }
-    requires named_all { NamedAll (rules_of xs.now ys.now zs.now ks.now count) (length times.now) (length times.now) }
-    requires labels_len { (length labels.now ≡ length times.now) × (length near.old ≡ length times.now) }
-    requires periods_len { (length periods.old ≡ length times.now) × (length falls.old ≡ length times.now) }
-    requires columns_2 { Columns pxs.old pys.old pzs.old pks.old count }
+    paces: &mut [Pace],
+) -> Option<u64>
+    requires named_all { NamedAll rules.now (length times.now) (length times.now) }
+    requires sizes { (length rules.now ≤ 1024) × (length times.now ≤ 256) }
+    requires paces_len { length paces.old ≡ length times.now }
 {
-    let mut most: u64 = 1073741823;
-    let mut part: u16 = 0;
-    while part < parts {
-        let t = measure_part(
-            xs, ys, zs, ks, count, f, patience, part, labels, marks, pxs, pys, pzs, pks, near,
-            times, periods, falls,
-        );
-        if t < 1 {
-            return 0;
-        }
-        most = least(most, t);
-        part += 1;
+    let mut probe = Probe {
+        marks: [0; 16384],
+        picked: [NO_RULE; 1024],
+        near: [0; 256],
+    };
+    let mut most = MOST_PASSES;
+    for part in 0..parts {
+        let passes = measure_part(rules, f, patience, part, &mut probe, times, paces)?;
+        most = most.min(passes);
     }
-    most
+    Some(most)
 }
 
-// Whether the rules allow so many passes more, of the most.
-fn try_more(
-    xs: &[u16],
-    ys: &[u16],
-    zs: &[u16],
-    ks: &[i32],
-    count: usize,
-    parts: u16,
-    labels: &[u16],
-    periods: &[u32],
-    falls: &[u32],
-    times: &[i32],
-    t: u64,
-    more: u64,
-    most: u64,
-) -> bool
-    requires columns { Columns xs.now ys.now zs.now ks.now count }
-    requires named_all { NamedAll (rules_of xs.now ys.now zs.now ks.now count) (length labels.now) (length times.now) }
-    requires periods_len { (length periods.now ≡ length times.now) × (length falls.now ≡ length times.now) }
-    ensures { result ≡ true → t + more ≤ most }
+// The passes, at most `most`, for which what is left of the rules decides as they do, by halves.
+pub fn longest(rules: &[Rule], parts: u16, paces: &[Pace], times: &[i32], most: u64) -> u64
+    requires named_all { NamedAll rules.now (length times.now) (length times.now) }
+    requires paces_len { length paces.now ≡ length times.now }
 {
-    if most < t {
-        return false;
-    }
-    if most - t < more {
-        return false;
-    }
-    all_allow(
-        xs,
-        ys,
-        zs,
-        ks,
-        count,
-        parts,
-        labels,
-        periods,
-        falls,
-        times,
-        t + more,
-    )
-}
-
-// The most passes, up to so many, for which what is left of the rules decides as they do.
-pub fn longest(
-    xs: &[u16],
-    ys: &[u16],
-    zs: &[u16],
-    ks: &[i32],
-    count: usize,
-    parts: u16,
-    labels: &[u16],
-    periods: &[u32],
-    falls: &[u32],
-    times: &[i32],
-    most: u64,
-) -> u64
-    requires columns { Columns xs.now ys.now zs.now ks.now count }
-    requires named_all { NamedAll (rules_of xs.now ys.now zs.now ks.now count) (length labels.now) (length times.now) }
-    requires periods_len { (length periods.now ≡ length times.now) × (length falls.now ≡ length times.now) }
-{
-    let mut t: u64 = 0;
+    let mut passes: u64 = 0;
     let mut more = most;
+    // No index: each step is half the one before.
     while 0 < more {
-        if try_more(
-            xs, ys, zs, ks, count, parts, labels, periods, falls, times, t, more, most,
-        ) {
-            t += more;
-            more = more / 2;
-        } else {
-            more = more / 2;
+        if more <= most - passes && all_allow(rules, parts, paces, times, passes + more) {
+            passes += more;
         }
+        more /= 2;
     }
-    t
+    passes
 }

@@ -6,28 +6,29 @@ use Prim.Native.Nat.{ℕ, zero, suc, ◌+◌, ◌/◌, ◌%◌, ◌^◌, ◌<◌
 use native.Mathlib.Nat.{pow-suc}
 use native.Mathlib.Omega.{arith}
 use lib.Dec.{ltb}
-use lib.ListN.{length, set, take, length-append}
+use lib.ListN.{length, set, length-append}
 use lib.IntN.{ℤ, pos, negsuc, nat_abs}
 use lib.Signed.{lt_z}
-use lib.Seq.{sets, length-sets, take_all}
+use lib.Seq.{sets}
 use borrow.Author.Tests.{lt-ltb, le-ltb, ltb-true, ltb-false}
 use Rattle.maxatom.proofs.Choose.{cond_yes, cond_no, clash}
-use Rattle.report.specs.Text.{Written, digits, decimal, field, signed_field}
+use Rattle.report.specs.Text.{Writes, digits, decimal, field, signed_field}
+use Rattle.report.specs.declared.text.Text.{Text}
 
 sets_append : (l : List ℕ) (i : ℕ) (xs ys : List ℕ) → sets l i (xs ++ ys) ≡ sets (sets l i xs) (i + length xs) ys
 sets_append l i [] ys = ap (λ (k : ℕ). sets l k ys) (omega arith)
 sets_append l i (x ∷ xs) ys = sets_append (set l i x) (suc i) xs ys ∙ ap (λ (k : ℕ). sets (sets (set l i x) (suc i) xs) k ys) (omega arith)
 
 -- one piece after another
-pub written_then : {l : List ℕ} {at : ℕ} {xs : List ℕ} {m : List ℕ} {p : ℕ} {ys : List ℕ} {n : List ℕ} {q : ℕ} → Written l at xs m p → Written m p ys n q → Written l at (xs ++ ys) n q
-written_then {l = l} {at = at} {xs = xs} {p = p} {ys = ys} a b =
+pub writes_then : {t u v : Text} {xs ys : List ℕ} → Writes t xs u → Writes u ys v → Writes t (xs ++ ys) v
+writes_then {t = t} {u = u} {xs = xs} {ys = ys} a b =
     record {
-      is = b.is ∙ (ap (λ (k : List ℕ). sets k p ys) a.is ∙ (ap (λ (k : ℕ). sets (sets l at xs) k ys) a.to ∙ sym (sets_append l at xs ys)));
-      to = let e = a.to in let f = b.to in omega (arith, length-append xs ys);
+      written = record {
+        is = b.written.is ∙ (ap (λ (k : List ℕ). sets k u.end ys) a.written.is ∙ (ap (λ (k : ℕ). sets (sets t.out.now t.end xs) k ys) a.written.to ∙ sym (sets_append t.out.now t.end xs ys)));
+        to = let e = a.written.to in let f = b.written.to in omega (arith, length-append xs ys);
+      };
+      same = b.same ∙ a.same;
     }
-
-pub written_length : {l : List ℕ} {at : ℕ} {xs m : List ℕ} {p : ℕ} → Written l at xs m p → length m ≡ length l
-written_length {l = l} {at = at} {xs = xs} a = ap length a.is ∙ length-sets l at xs
 
 -- any fuel above the number serves
 fuel_enough : (k l n : ℕ) → n < k → n < l → digits k n ≡ digits l n
@@ -82,33 +83,23 @@ unfolding signed_field
 above_text (pos n) e = refl
 above_text (negsuc n) e = clash refl e
 
--- the first i bytes of a word are written
-pub record Copied (word before : List ℕ) (at : ℕ) (after : List ℕ) (p i : ℕ) : Type 0 where
-  pub low : i ≤ length word
-  pub next : p ≡ at + i
-  pub written : Written before at (take i word) after p
-
-module _ {word before : List ℕ} {at : ℕ} {after : List ℕ} {p i : ℕ} (c : Copied word before at after p i) where
-  pub copied_all : length word ≤ i → Written before at word after p
-  copied_all h = rw (take_all i word h) at c.written
-
 -- part of a text is written, and the rest is to come
-pub record Listed (whole rest before : List ℕ) (at : ℕ) (after : List ℕ) (p : ℕ) : Type 0 where
+pub record Listed (whole rest : List ℕ) (before after : Text) : Type 0 where
   pub bytes : List ℕ
-  pub written : Written before at bytes after p
+  pub written : Writes before bytes after
   pub joined : bytes ++ rest ≡ whole
 
-module _ {whole before : List ℕ} {at : ℕ} {m : List ℕ} {p : ℕ} where
-  pub listed_next : {xs rest rest' : List ℕ} {n : List ℕ} {q : ℕ} → rest ≡ xs ++ rest' → Listed whole rest before at m p → Written m p xs n q → Listed whole rest' before at n q
+module _ {whole : List ℕ} {before after : Text} where
+  pub listed_next : {xs rest rest' : List ℕ} {next : Text} → rest ≡ xs ++ rest' → Listed whole rest before after → Writes after xs next → Listed whole rest' before next
   listed_next {xs = xs} {rest' = rest'} e l w =
       record {
         bytes = l.bytes ++ xs;
-        written = written_then l.written w;
+        written = writes_then l.written w;
         joined = append_assoc l.bytes xs rest' ∙ (ap (λ (r : List ℕ). l.bytes ++ r) (sym e) ∙ l.joined);
       }
 
-  pub listed_same : {rest rest' : List ℕ} → rest ≡ rest' → Listed whole rest before at m p → Listed whole rest' before at m p
+  pub listed_same : {rest rest' : List ℕ} → rest ≡ rest' → Listed whole rest before after → Listed whole rest' before after
   listed_same e l = record { bytes = l.bytes; written = l.written; joined = ap (λ (r : List ℕ). l.bytes ++ r) (sym e) ∙ l.joined }
 
-  pub listed_all : {rest : List ℕ} → rest ≡ [] → Listed whole rest before at m p → Written before at whole m p
+  pub listed_all : {rest : List ℕ} → rest ≡ [] → Listed whole rest before after → Writes before whole after
   listed_all e l = rw (sym (append-nil l.bytes) ∙ (ap (λ (r : List ℕ). l.bytes ++ r) (sym e) ∙ l.joined)) at l.written

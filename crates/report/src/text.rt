@@ -1,74 +1,87 @@
-// Text written into a lent buffer, piece after piece. What does not fit is left out; the end is counted all the same.
+// Text written into a lent buffer, piece after piece. What does not fit is left out; the end is counted all the same. Numbers are written
+// here, since the library's `write!` says what it wrote only where it succeeds, and does not say that it succeeds; a report always ends.
 ghost use Rattle.std.specs.Prelude.{◌≡◌, [], ◌∷◌, ◌+◌, ◌<◌, ◌≤◌, ◌^◌, length};
-ghost use Rattle.report.specs.Text.{Written, decimal, field, signed_field};
+ghost use Rattle.report.specs.Text.{Writes, decimal, field, signed_field};
 
-use table::size_of;
-
-fn put(out: &mut [u8], at: usize, b: u8) -> usize
-    requires { at < 2 ^ 40 }
-    ensures { Written out.old at (b ∷ []) out.new result }
-{
-    if at < out.len() {
-        out[at] = b;
-        return at + 1;
-    }
-    at + 1
+// A buffer, and where the text in it ends. How far a text may reach is a clause of each method and no invariant, since each piece adds a
+// length of its own.
+#[derive(Drop)]
+pub struct Text<'a> {
+    out: &'a mut [u8],
+    pub end: usize,
 }
 
 fn digit(n: u64) -> u8
     requires { n < 10 }
     ensures { result ≡ 48 + n }
 {
-    48 + (n as u8)
+    b'0' + n as u8
 }
 
-// A number in decimal.
-fn put_number(out: &mut [u8], at: usize, n: u64) -> usize
-    requires { at < 2 ^ 39 }
-    ensures { Written out.old at (decimal n) out.new result }
-{
-    if n < 10 {
-        return put(out, at, digit(n));
+impl<'a> Text<'a> {
+    pub fn new(out: &'a mut [u8]) -> Text<'a>
+        ensures same_reference { result.out.ghost_name ≡ out.entry.ghost_name }
+        ensures same_bytes { result.out.now ≡ out.old }
+        ensures end_value { result.end ≡ 0 }
+    {
+        Text { out, end: 0 }
     }
-    let p = put_number(out, at, n / 10);
-    put(out, p, digit(n % 10))
-}
 
-// A blank and a number.
-pub fn put_field(out: &mut [u8], at: usize, n: u64) -> usize
-    requires { at < 2 ^ 38 }
-    ensures written { Written out.old at (field n) out.new result }
-    ensures upper_bound { result ≤ at + 24 }
-{
-    let p = put(out, at, 32);
-    put_number(out, p, n)
-}
-
-// A blank and a number with its sign.
-pub fn put_signed(out: &mut [u8], at: usize, t: i32) -> usize
-    requires { at < 2 ^ 38 }
-    ensures written { Written out.old at (signed_field t) out.new result }
-    ensures upper_bound { result ≤ at + 24 }
-{
-    if t < 0 {
-        let p = put(out, at, 32);
-        let q = put(out, p, 45);
-        return put_number(out, q, size_of(t) as u64);
+    fn put(&mut self, b: u8)
+        requires { self.old.end < 2 ^ 40 }
+        ensures { Writes self.old (b ∷ []) self.new }
+    {
+        let at = self.end;
+        if at < self.out.len() {
+            self.out[at] = b;
+        }
+        self.end = at + 1;
     }
-    put_field(out, at, size_of(t) as u64)
-}
 
-// A word.
-pub fn put_word(out: &mut [u8], at: usize, word: &[u8]) -> usize
-    requires { (at < 2 ^ 38) × (length word.now ≤ 8) }
-    ensures written { Written out.old at word.now out.new result }
-    ensures upper_bound { result ≤ at + 8 }
-{
-    let mut i = 0;
-    let mut p = at;
-    while i < word.len() {
-        p = put(out, p, word[i]);
-        i += 1;
+    // A number in decimal.
+    fn number(&mut self, n: u64)
+        requires { self.old.end < 2 ^ 39 }
+        ensures { Writes self.old (decimal n) self.new }
+    {
+        if n < 10 {
+            self.put(digit(n));
+        } else {
+            self.number(n / 10);
+            self.put(digit(n % 10));
+        }
     }
-    p
+
+    // A blank and a number.
+    pub fn field(&mut self, n: u64)
+        requires { self.old.end < 2 ^ 38 }
+        ensures written { Writes self.old (field n) self.new }
+        ensures upper_bound { self.new.end ≤ self.old.end + 24 }
+    {
+        self.put(b' ');
+        self.number(n);
+    }
+
+    // A blank and a number with its sign.
+    pub fn signed(&mut self, t: i32)
+        requires { self.old.end < 2 ^ 38 }
+        ensures written { Writes self.old (signed_field t) self.new }
+        ensures upper_bound { self.new.end ≤ self.old.end + 24 }
+    {
+        self.put(b' ');
+        if t < 0 {
+            self.put(b'-');
+        }
+        self.number(u64::from(t.unsigned_abs()));
+    }
+
+    // A word.
+    pub fn word(&mut self, word: &[u8])
+        requires { (self.old.end < 2 ^ 38) × (length word.now ≤ 8) }
+        ensures written { Writes self.old word.now self.new }
+        ensures upper_bound { self.new.end ≤ self.old.end + 8 }
+    {
+        for b in word {
+            self.put(*b);
+        }
+    }
 }

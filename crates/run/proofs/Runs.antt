@@ -1,15 +1,17 @@
 -- Passes and the run, rule by rule and pass by pass. Assumes nothing.
 use mathlib.Core.Path.{◌≡◌, refl, sym, ap, subst, ◌∙◌}
-use mathlib.Core.Bool.{Bool, true, false, cond}
+use mathlib.Core.Bool.{true, false, cond}
 use mathlib.Core.List.{List, [], ◌∷◌, ◌++◌}
 use Prim.Native.Nat.{ℕ, zero, suc, ◌+◌, ◌-◌, ◌*◌, ◌<◌, ◌≤◌, ◌^◌}
 use native.Mathlib.Nat.{mul-le-mul}
 use native.Mathlib.Omega.{arith}
-use lib.ListN.{length, set, replicate}
+use lib.ListN.{length, drop, set, replicate}
 use lib.IntN.{ℤ, pos}
 use lib.Signed.{◌≤ℤ◌, lt_z}
 use lib.Dec.{eqb}
 use borrow.Author.Tests.{eq-eqb, ne_eqb}
+use Rattle.std.specs.Prelude.{Ok, Err}
+use Rattle.std.proofs.lemmas.List.{at_drop_more, at_drop_all}
 use mir.Syntax.{w32}
 use mir.Val.{SFits}
 use Rattle.maxatom.specs.Rule.{time_at, left_side, satisfied}
@@ -18,23 +20,18 @@ use Rattle.maxatom.specs.declared.Rule.{Rule}
 use Rattle.maxatom.proofs.Choose.{cond_yes, cond_no}
 use Rattle.maxatom.proofs.Derivations.{start, longest_high}
 use Rattle.maxatom.proofs.Rules.{room_zero, zero_time}
-use Rattle.derivation.specs.Step.{State, initial, rule_at, below_floor, step_on}
+use Rattle.derivation.specs.Step.{State, initial, no_rule, rule_at, below_floor, step_on}
 use Rattle.derivation.specs.Play.{play, end_state, up_from}
-use Rattle.derivation.specs.Run.{Run, End, pass, passes, pass_bound, solve, fallen, planned, fell, unfinished}
+use Rattle.derivation.specs.Run.{Run, pass, passes, pass_bound, solve, fallen, planned, fell, unfinished}
 use Rattle.derivation.specs.Demands.{finally}
 use Rattle.derivation.proofs.Reached.{Reached, set_of, size_is, not_after, high_test, test_high, floor_low, view}
 use Rattle.derivation.proofs.AnyOrder.{played}
 use Rattle.derivation.proofs.Passes.{run_append, after_step, stays_above, PassIs, pass_is}
-use Rattle.table.specs.Columns.{rule_of, rules_from, rules_of}
-use Rattle.table.proofs.Rows.{rows_next, rows_end, rows_length, rows_at}
-use Rattle.solver.specs.Rules.{Lowerable}
-use Rattle.derivation.specs.Replies.{solved_reply, SolvedAs}
-use Rattle.run.specs.Passing.{Running, run_of, Looping}
-use Rattle.run.specs.declared.passing.PassOut.{PassOut}
-use Rattle.derivation.specs.declared.Solved.TheVariants.{Plan, None}
-use Rattle.derivation.specs.Refusals.{answer}
-use Rattle.derivation.specs.Calls.{answer_of}
-use Rattle.solver.proofs.Laws.{in_book}
+use Rattle.solver.specs.Rules.{Named, NamedAll, Lowerable}
+use Rattle.run.specs.Passing.{Running, PartDone, Looping, run_of, end_of}
+use Rattle.run.specs.declared.passing.Pass.{Pass}
+use Rattle.run.specs.declared.passing.Fall.{Fall}
+use Rattle.solver.proofs.Laws.{in_book, named}
 use Rattle.solver.proofs.Steps.{total_bound, left_fits, lowerable}
 
 module _ {jobs : ℕ} {rules : List Rule} {times : List ℤ} {steps : ℕ} (p : Running jobs rules times steps) where
@@ -78,57 +75,54 @@ module _ {jobs : ℕ} {rules : List Rule} {times : List ℤ} {steps : ℕ} (p : 
         above = rw times' at (stays_above p.accepted reached i h high violated' (rw same up));
       }
 
--- the rules of a pass from one to before i are passed: the times were b₀ after s₀ steps, and are b after s
-pub record Going (xs ys zs : List ℕ) (ks : List ℤ) (count from : ℕ) (b₀ : List ℤ) (s₀ : ℕ) (b : List ℤ) (s i : ℕ) : Type 0 where
-  pub low : i ≤ count
-  pub running : Running (length b₀) (rules_of xs ys zs ks count) b s
-  pub rest : pass (floor (rules_of xs ys zs ks count)) (rules_from xs ys zs ks from (count - from)) b₀ s₀ ≡ pass (floor (rules_of xs ys zs ks count)) (rules_from xs ys zs ks i (count - i)) b s
+-- the rules of an accepted book name its jobs
+pub named_all : {jobs : ℕ} {rules : List Rule} → Accepted jobs rules → NamedAll rules jobs jobs
+named_all a = record { in_near = λ i h. named _ i a h; in_far = λ i h. named _ i a h }
 
-module _ {xs ys zs : List ℕ} {ks : List ℤ} {count from : ℕ} {b₀ : List ℤ} {s₀ : ℕ} {b : List ℤ} {s i : ℕ} (g : Going xs ys zs ks count from b₀ s₀ b s i) where
-  abbrev rules : List Rule
-  rules = rules_of xs ys zs ks count
-
+-- rule i of a pass that came to it
+module _ {rules : List Rule} {from i : ℕ} {b₀ b : List ℤ} {s₀ s : ℕ} (g : PartDone rules from i b₀ s₀ b s) where
   abbrev rule : Rule
-  rule = rule_of xs ys zs ks i
+  rule = rule_at rules i
 
   abbrev whole : Run
-  whole = pass (floor rules) (rules_from xs ys zs ks from (count - from)) b₀ s₀
+  whole = pass (floor rules) (drop from rules) b₀ s₀
 
-  head : i < count → whole ≡ pass (floor rules) (rule ∷ rules_from xs ys zs ks (i + 1) (count - (i + 1))) b s
-  head h = g.rest ∙ ap (λ (rs : List Rule). pass (floor rules) rs b s) (rows_next xs ys zs ks i count h)
+  module _ (h : i < length rules) where
+    head : whole ≡ pass (floor rules) (rule ∷ drop (i + 1) rules) b s
+    head = g.rest ∙ at_drop_more (λ (rs : List Rule). pass (floor rules) rs b s) rules i no_rule h
 
-  pub going_kept : i < count → satisfied rule b ≡ true → Going xs ys zs ks count from b₀ s₀ b s (i + 1)
-  unfolding pass
-  going_kept h e = record { low = omega arith; running = g.running; rest = head h ∙ cond_yes _ _ e }
+    pub done_named : Named rule (length b)
+    done_named = rw (size_of_lem g.running) (named rules i g.running.accepted h)
 
-  -- the left side of the rule is a number of 32 bits
-  pub fits_here : i < count → SFits w32 (left_side rule b)
-  fits_here h = left_fits (total_bound g.running.accepted) b (early g.running) g.running.above rule (in_book xs ys zs ks count i g.running.accepted h)
+    -- the left side of the rule is a number of 32 bits
+    pub done_fits : SFits w32 (left_side rule b)
+    done_fits = left_fits (total_bound g.running.accepted) b (early g.running) g.running.above rule (in_book rules i g.running.accepted h)
 
-  module _ (h : i < count) (violated : satisfied rule b ≡ false) where
-    pub lowerable_here : Lowerable rule b
-    lowerable_here =
-        lowerable (total_bound g.running.accepted) b (early g.running) g.running.above rule (in_book xs ys zs ks count i g.running.accepted h) violated
-
-    pub going_low : {b' : List ℤ} → b' ≡ set b rule.z (left_side rule b) → lt_z (left_side rule b) (floor rules) ≡ false → Going xs ys zs ks count from b₀ s₀ b' (s + 1) (i + 1)
+    pub done_kept : satisfied rule b ≡ true → PartDone rules from (i + 1) b₀ s₀ b s
     unfolding pass
-    going_low q up =
-        let at = rows_at xs ys zs ks count i h in
-        record {
-          low = omega arith;
-          running = rw q (rw at at (running_step g.running i (omega (arith, rows_length xs ys zs ks 0 count)) (rw at violated) (rw at up)));
-          rest = head h ∙ (cond_no _ _ violated ∙ (cond_no _ _ up ∙ ap (λ (t : List ℤ). pass (floor rules) (rules_from xs ys zs ks (i + 1) (count - (i + 1))) t (s + 1)) (sym q)));
-        }
+    done_kept e = record { running = g.running; rest = head ∙ cond_yes _ _ e }
 
-    pub going_fell : {b' : List ℤ} → b' ≡ set b rule.z (left_side rule b) → lt_z (left_side rule b) (floor rules) ≡ true →
-        whole ≡ record { times = b'; steps = s + 1; end = fell rule.z }
-    unfolding pass
-    going_fell q low =
-        head h ∙ (cond_no _ _ violated ∙ (cond_yes _ _ low ∙ ap (λ (t : List ℤ). record { times = t; steps = s + 1; end = fell rule.z }) (sym q)))
+    module _ (violated : satisfied rule b ≡ false) where
+      pub done_lowerable : Lowerable rule b
+      done_lowerable = lowerable (total_bound g.running.accepted) b (early g.running) g.running.above rule (in_book rules i g.running.accepted h) violated
 
-  pub going_all : count ≤ i → whole ≡ record { times = b; steps = s; end = unfinished }
+      pub done_low : {b' : List ℤ} → b' ≡ set b rule.z (left_side rule b) → lt_z (left_side rule b) (floor rules) ≡ false → PartDone rules from (i + 1) b₀ s₀ b' (s + 1)
+      unfolding pass
+      done_low q up =
+          record {
+            running = rw q (running_step g.running i h violated up);
+            rest = head ∙ (cond_no _ _ violated ∙ (cond_no _ _ up ∙ ap (λ (t : List ℤ). pass (floor rules) (drop (i + 1) rules) t (s + 1)) (sym q)));
+          }
+
+      pub done_fell : {b' : List ℤ} → b' ≡ set b rule.z (left_side rule b) → lt_z (left_side rule b) (floor rules) ≡ true →
+          whole ≡ record { times = b'; steps = s + 1; end = fell rule.z }
+      unfolding pass
+      done_fell q low =
+          head ∙ (cond_no _ _ violated ∙ (cond_yes _ _ low ∙ ap (λ (t : List ℤ). record { times = t; steps = s + 1; end = fell rule.z }) (sym q)))
+
+  pub done_all : length rules ≤ i → whole ≡ record { times = b; steps = s; end = unfinished }
   unfolding pass
-  going_all h = g.rest ∙ ap (λ (rs : List Rule). pass (floor rules) rs b s) (rows_end xs ys zs ks i count h)
+  done_all h = g.rest ∙ at_drop_all (λ (rs : List Rule). pass (floor rules) rs b s) rules i h
 
 pub looping_none : {jobs : ℕ} {rules : List Rule} → Accepted jobs rules → Looping jobs rules (replicate jobs (pos 0)) 0
 unfolding solve play end_state
@@ -200,30 +194,23 @@ module _ {jobs : ℕ} {rules : List Rule} {b : List ℤ} {s : ℕ} (l : Looping 
   looping_less e q = let m = made.more in let t = l.running.same_steps in omega (arith, few (looping_next e q).running, few l.running)
 
 -- the same of a pass's outcome
-module _ {jobs : ℕ} {rules : List Rule} {b : List ℤ} {s : ℕ} (l : Looping jobs rules b s) (p : PassOut) (t : List ℤ) (said : run_of p t ≡ pass (floor rules) rules b s) where
-  fallen_is : {v : Bool} → p.fell ≡ v → fallen (run_of p t).end ≡ v
+module _ {jobs : ℕ} {rules : List Rule} {b : List ℤ} {s : ℕ} (l : Looping jobs rules b s) {t : List ℤ} where
+  pub ends_fell : (e : Fall) → run_of (Err e) t ≡ pass (floor rules) rules b s → end_of (Err e) t ≡ solve jobs rules
   unfolding fallen
-  fallen_is {v = true} e = rw e
-  fallen_is {v = false} e = rw e
+  ends_fell e said = sym (looping_fell l (run_of (Err e) t) said refl)
 
-  pub solved_fell : p.fell ≡ true → SolvedAs (solve jobs rules) (None p.steps p.job) t
-  unfolding solved_reply
-  solved_fell e =
-      let q = looping_fell l (run_of p t) said (fallen_is e) in
-      record {
-        said = ap answer (ap (λ (x : End). record { steps = p.steps; end = x }) (sym (cond_yes _ _ e)) ∙ ap answer_of (sym q));
-        left = ap (λ (r : Run). r.times) (sym q);
-      }
+  module _ (p : Pass) (said : run_of (Ok p) t ≡ pass (floor rules) rules b s) where
+    pub ends_still : p.steps ≡ s → end_of (Ok p.steps) t ≡ solve jobs rules
+    unfolding fallen
+    ends_still q = sym (looping_still l (run_of (Ok p) t) said refl q)
 
-  module _ (e : p.fell ≡ false) where
-    pub solved_still : p.steps ≡ s → SolvedAs (solve jobs rules) (Plan p.steps) t
-    unfolding solved_reply
-    solved_still q =
-        let r = looping_still l (run_of p t) said (fallen_is e) q in
-        record { said = ap answer (ap answer_of (sym r)); left = ap (λ (x : Run). x.times) (sym r) }
+    pub goes_next : (p.steps ≡ s → ⊥) → Looping jobs rules t p.steps
+    unfolding fallen
+    goes_next q = looping_next l (run_of (Ok p) t) said refl q
 
-    pub solved_next : (p.steps ≡ s → ⊥) → Looping jobs rules t p.steps
-    solved_next q = looping_next l (run_of p t) said (fallen_is e) q
+    pub goes_less : (p.steps ≡ s → ⊥) → pass_bound jobs rules - p.steps < pass_bound jobs rules - s
+    unfolding fallen
+    goes_less q = looping_less l (run_of (Ok p) t) said refl q
 
-    pub solved_less : (p.steps ≡ s → ⊥) → pass_bound jobs rules - p.steps < pass_bound jobs rules - s
-    solved_less q = looping_less l (run_of p t) said (fallen_is e) q
+    pub goes_up : s ≤ p.steps
+    goes_up = looping_more l (run_of (Ok p) t) said

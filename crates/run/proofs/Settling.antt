@@ -2,12 +2,12 @@
 use mathlib.Core.Path.{◌≡◌, refl, sym, ap, subst, ◌∙◌}
 use mathlib.Core.Bool.{true, false, true≢false}
 use mathlib.Core.List.{List}
-use Prim.Native.Nat.{ℕ, zero, suc, ◌+◌, ◌-◌, ◌*◌, ◌<◌, ◌≤◌, ◌/◌, ◌%◌, ◌^◌, max, min}
-use native.Mathlib.Nat.{div_self, div-eq_of_lt}
-use native.Mathlib.Decide.{dec_lt}
+use Prim.Native.Nat.{ℕ, ◌+◌, ◌*◌, ◌<◌, ◌≤◌, ◌/◌, ◌%◌, ◌^◌, min}
+use native.Mathlib.Decide.{dec_lt, ℕ_discrete}
 use native.Mathlib.Omega.{arith}
-use lib.Bits.{bit_or, bit_xor, differ, or_shr, or_step, xor_shr, xor_step}
-use lib.Pow.{pow_pos, pow-lt, pow-add, shl-shr, shl_exact}
+use lib.Bits.{bit_or, bit_xor}
+use lib.Pow.{shl_exact}
+use Rattle.std.proofs.lemmas.Nat.Bits.{bit_at-lt, bit_at_or, bit_at_xor, bit_at-pow_same, bit_at-pow_other}
 use lib.ListN.{length, get_or, set, length-set}
 use lib.Seq.{get_or-set_same, get_or-set_other}
 use borrow.Author.Count.{below_more}
@@ -18,60 +18,33 @@ use Rattle.maxatom.specs.declared.Rule.{Rule}
 use Rattle.maxatom.proofs.Integers.{lt_read, le_make, le_true, le_false, true_le, by_test, by_test_not, ≤ℤ-trans}
 use Rattle.maxatom.proofs.Lists.{set_time}
 use Rattle.derivation.specs.Step.{rule_at}
-use Rattle.run.specs.Blocks.{Marked, Marking, Reads, Settled}
-
--- bits of a word
-either_bit : (a b k : ℕ) → bit_or a b / 2 ^ k % 2 ≡ max (a / 2 ^ k % 2) (b / 2 ^ k % 2)
-either_bit a b k = rw (or_shr a b k) (omega (arith, or_step (a / 2 ^ k) (b / 2 ^ k)))
+use Rattle.run.specs.Blocks.{Marked, Reads, Settled}
 
 pub or_left : (a b : ℕ) {k : ℕ} → Marked a k → Marked (bit_or a b) k
-or_left a b {k = k} h = record { set = omega (arith, h.set, either_bit a b k) }
+or_left a b {k = k} h = record { set = omega (arith, h.set, bit_at-lt b k, bit_at_or a b k) }
 
 pub or_right : (a b : ℕ) {k : ℕ} → Marked b k → Marked (bit_or a b) k
-or_right a b {k = k} h = record { set = omega (arith, h.set, either_bit a b k) }
-
-pub bit_own : (k : ℕ) → Marked (2 ^ k) k
-bit_own k = record { set = rw (div_self (pow_pos k)) refl }
+or_right a b {k = k} h = record { set = omega (arith, h.set, bit_at-lt a k, bit_at_or a b k) }
 
 -- the word with one bit, as the machine shifts it
 pub bit_word : (k : ℕ) → k < 64 → 1 * 2 ^ k % 2 ^ 64 ≡ 2 ^ k
 bit_word k h = shl_exact {a = 1} 1 k 64 (omega arith) (omega arith) ∙ omega arith
 
--- a bit has no other place
-bit_other : (k b : ℕ) → (b ≡ k → ⊥) → 2 ^ k / 2 ^ b % 2 ≡ 0
-bit_other k b h = go (dec_lt b k)
-  where
-    go : Dec (b < k) → 2 ^ k / 2 ^ b % 2 ≡ 0
-    go (yes l) =
-        let n = k - b - 1 in
-        let e : 2 ^ k ≡ 2 ^ suc n * 2 ^ b = ap (λ (m : ℕ). 2 ^ m) (omega arith) ∙ pow-add 2 (suc n) b in
-        rw (e, shl-shr (2 ^ suc n) b) (omega arith)
-    go (no l) = rw (div-eq_of_lt (pow-lt {i = k} {j = b} (omega arith))) refl
-
-differ_zero : (d : ℕ) → differ d 0 ≡ d
-differ_zero zero = refl
-differ_zero (suc d) = refl
-
 pub xor_other : (a k : ℕ) {b : ℕ} → (b ≡ k → ⊥) → Marked a b → Marked (bit_xor a (2 ^ k)) b
-xor_other a k {b = b} h m =
-    let e : differ (a / 2 ^ b % 2) (2 ^ k / 2 ^ b % 2) ≡ a / 2 ^ b % 2 = ap (λ (d : ℕ). differ (a / 2 ^ b % 2) d) (bit_other k b h) ∙ differ_zero (a / 2 ^ b % 2) in
-    record { set = rw (xor_shr a (2 ^ k) b) (omega (arith, m.set, e, xor_step (a / 2 ^ b) (2 ^ k / 2 ^ b))) }
+xor_other a k {b = b} h m = record { set = omega (arith, m.set, bit_at-pow_other k b h, bit_at_xor a (2 ^ k) b) }
 
-eq_dec : (a b : ℕ) → Dec (a ≡ b)
-eq_dec a b = go (dec_lt a b) (dec_lt b a)
-  where
-    go : Dec (a < b) → Dec (b < a) → Dec (a ≡ b)
-    go (yes l) m = no (λ e. omega arith)
-    go (no l) (yes m) = no (λ e. omega arith)
-    go (no l) (no m) = yes (omega arith)
+-- one more block marked in a job's word
+record Marking (words : List ℕ) (job block : ℕ) (words' : List ℕ) : Type 0 where
+  pub size : length words' ≡ length words
+  pub kept : (q b : ℕ) → Marked (get_or words q 0) b → Marked (get_or words' q 0) b
+  pub new : Marked (get_or words' job 0) block
 
--- one more block in a word
-pub marking : (words : List ℕ) (job block : ℕ) → job < length words → Marking words job block (set words job (bit_or (get_or words job 0) (2 ^ block)))
+marking : (words : List ℕ) (job block : ℕ) → job < length words → Marking words job block (set words job (bit_or (get_or words job 0) (2 ^ block)))
 marking words job block h =
     record {
       size = length-set words job (bit_or (get_or words job 0) (2 ^ block));
-      kept = λ q b m. keep q b m (eq_dec q job);
-      new = rw (get_or-set_same words job (bit_or (get_or words job 0) (2 ^ block)) 0 h) (or_right (get_or words job 0) (2 ^ block) (bit_own block));
+      kept = λ q b m. keep q b m (ℕ_discrete q job);
+      new = rw (get_or-set_same words job (bit_or (get_or words job 0) (2 ^ block)) 0 h) (or_right (get_or words job 0) (2 ^ block) (record { set = bit_at-pow_same block }));
     }
   where
     keep : (q b : ℕ) → Marked (get_or words q 0) b → Dec (q ≡ job) → Marked (get_or (set words job (bit_or (get_or words job 0) (2 ^ block))) q 0) b
@@ -86,14 +59,21 @@ pub record Indexing (rules : List Rule) (size : ℕ) (words : List ℕ) (i : ℕ
   pub first : (j : ℕ) → j < i → Marked (get_or words (rule_at rules j).x 0) (j / 16)
   pub second : (j : ℕ) → j < i → Marked (get_or words (rule_at rules j).y 0) (j / 16)
 
-pub indexing_next : {rules : List Rule} {size : ℕ} {words words' words'' : List ℕ} {i : ℕ} → Indexing rules size words i → Marking words (rule_at rules i).x (i / 16) words' → Marking words' (rule_at rules i).y (i / 16) words'' →
-    Indexing rules size words'' (i + 1)
-indexing_next {rules = rules} {words = words} {i = i} g a b =
-    record {
+-- a word with one more bit, written back
+abbrev pub with_bit : List ℕ → ℕ → ℕ → List ℕ
+with_bit words job bit = set words job (bit_or (get_or words job 0) bit)
+
+pub indexing_next : {rules : List Rule} {size : ℕ} {words : List ℕ} {i bit : ℕ} → Indexing rules size words i → (rule_at rules i).x < size → (rule_at rules i).y < size → bit ≡ 2 ^ (i / 16) →
+    Indexing rules size (with_bit (with_bit words (rule_at rules i).x bit) (rule_at rules i).y bit) (i + 1)
+indexing_next {rules = rules} {size = size} {words = words} {i = i} g hx hy e =
+    let a = marking words (rule_at rules i).x (i / 16) (omega (arith, g.sized)) in
+    let b = marking (with_bit words (rule_at rules i).x (2 ^ (i / 16))) (rule_at rules i).y (i / 16) (omega (arith, g.sized, a.size)) in
+    rw e
+    (record {
       sized = b.size ∙ (a.size ∙ g.sized);
       first = below_more _ i (λ j h. b.kept _ _ (a.kept _ _ (g.first j h))) (b.kept _ _ a.new);
       second = below_more _ i (λ j h. b.kept _ _ (a.kept _ _ (g.second j h))) b.new;
-    }
+    })
 
 pub indexed : {rules : List Rule} {size : ℕ} {words : List ℕ} {i : ℕ} → Indexing rules size words i → length rules ≤ i → ((j : ℕ) → j < length rules → (rule_at rules j).z < size) → Reads rules words
 indexed g h named =
@@ -143,7 +123,7 @@ module _ {rules : List Rule} {times : List ℤ} {marked i to : ℕ} (s : Settled
     -- a rule that reads the lowered job is in a block that is now marked
     read_or : (j : ℕ) → j < length rules → (satisfied (rule_at rules j) times ≡ false → (j ≡ i → ⊥) → Marked marked (j / 16)) →
         satisfied (rule_at rules j) (set times rule.z left) ≡ false → Marked (bit_or marked (get_or words rule.z 0)) (j / 16)
-    read_or j l was v = go (eq_dec (rule_at rules j).x rule.z) (eq_dec (rule_at rules j).y rule.z) (eq_dec j i)
+    read_or j l was v = go (ℕ_discrete (rule_at rules j).x rule.z) (ℕ_discrete (rule_at rules j).y rule.z) (ℕ_discrete j i)
       where
         go : Dec ((rule_at rules j).x ≡ rule.z) → Dec ((rule_at rules j).y ≡ rule.z) → Dec (j ≡ i) → Marked (bit_or marked (get_or words rule.z 0)) (j / 16)
         go (yes e) m k = or_right marked (get_or words rule.z 0) (subst (λ (n : ℕ). Marked (get_or words n 0) (j / 16)) e (reads.first j l))

@@ -4,20 +4,21 @@ use mathlib.Core.Bool.{Bool, true, false}
 use mathlib.Core.List.{List}
 use Prim.Native.Nat.{ℕ, ◌+◌, ◌-◌, ◌<◌, ◌≤◌}
 use native.Mathlib.Omega.{arith}
-use lib.ListN.{length}
 use lib.IntN.{ℤ}
+use Rattle.std.specs.Prelude.{Option, Some, Ok}
+use Rattle.std.specs.Bool.{then_some}
 use Rattle.maxatom.specs.Book.{floor}
 use Rattle.maxatom.specs.declared.Rule.{Rule}
 use Rattle.maxatom.specs.Clauses.{clauses_of}
 use Rattle.maxatom.specs.Jumps.{Walk, Passing, start, round}
 use Rattle.derivation.specs.Run.{pass, pass_bound, fallen, unfinished}
 use Rattle.derivation.proofs.Walks.{walk_pass}
-use Rattle.jump.specs.Leaps.{Passed, Sized}
+use Rattle.jump.specs.Leaps.{Passed}
 use Rattle.jump.proofs.Jumping.{passed_still}
 use Rattle.run.specs.Passing.{run_of, Looping}
 use Rattle.run.specs.Blocks.{Settled}
-use Rattle.run.specs.declared.passing.PassOut.{PassOut}
-use Rattle.run.proofs.Runs.{looping_next, solved_next, solved_less}
+use Rattle.run.specs.declared.passing.Pass.{Pass}
+use Rattle.run.proofs.Runs.{looping_next, goes_next, goes_less}
 
 module _ {jobs : ℕ} {rules : List Rule} where
   looping_walk : {b b' : List ℤ} {s k : ℕ} → Looping jobs rules b s → Walk (floor rules) (clauses_of rules) b b' k → 1 ≤ k → Looping jobs rules b' (s + k)
@@ -30,23 +31,23 @@ module _ {jobs : ℕ} {rules : List Rule} where
   looping_jump {b' = b'} {s = s} l (round {s = i} {k = k} p w some) =
       subst (λ (n : ℕ). Looping jobs rules b' n) (omega arith) (looping_walk (looping_jump l p) w some)
 
--- the run's loop, with the room that watching takes
-pub record Watching (jobs : ℕ) (rules : List Rule) (room : ℕ) (marks : List ℕ) (was : List ℤ) (drops : List ℕ) (near far times : List ℤ) (s : ℕ) (sparse : Bool) (marked : ℕ) : Type 0 where
-  pub looping : Looping jobs rules times s
-  pub settled : sparse ≡ true → Settled rules times marked 0 0
-  pub marks_size : length marks ≡ room
-  pub was_size : length was ≡ jobs
-  pub sized : Sized jobs drops near far
-
 -- a pass, and what the watch took at once after it
-module _ {jobs : ℕ} {rules : List Rule} {b t t' : List ℤ} {s k : ℕ} (l : Looping jobs rules b s) (p : PassOut) (said : run_of p t ≡ pass (floor rules) rules b s)
-    (e : p.fell ≡ false) (q : p.steps ≡ s → ⊥) (w : Passed rules (floor rules) t t' k) where
+module _ {jobs : ℕ} {rules : List Rule} {b t t' : List ℤ} {s k : ℕ} (l : Looping jobs rules b s) (p : Pass) (said : run_of (Ok p) t ≡ pass (floor rules) rules b s)
+    (q : p.steps ≡ s → ⊥) (w : Passed rules (floor rules) t t' k) where
   pub watched : Looping jobs rules t' (p.steps + k)
-  watched = looping_jump (solved_next l p t said e q) w.passing
+  watched = looping_jump (goes_next l p said q) w.passing
 
   pub watched_less : pass_bound jobs rules - (p.steps + k) < pass_bound jobs rules - s
-  watched_less = let m = solved_less l p t said e q in omega arith
+  watched_less = let m = goes_less l p said q in omega arith
 
 -- where the watch took nothing, the pass's marks stand
 pub still_settled : {rules : List Rule} {f : ℤ} {t t' : List ℤ} {k m : ℕ} → Passed rules f t t' k → k ≡ 0 → Settled rules t m 0 0 → Settled rules t' m 0 0
 still_settled {rules = rules} {m = m} w e q = subst (λ (b : List ℤ). Settled rules b m 0 0) (sym (passed_still w (omega arith))) q
+
+-- what is chosen by a test is there only where the test is true
+pub chosen : {T : Type 0} (b : Bool) (a x : T) → then_some b a ≡ Some x → (b ≡ true) × (a ≡ x)
+chosen true a x e = (refl, cc)
+chosen false a x e = cc
+
+pub chosen_if : {T : Type 0} {b : Bool} {a : T} {o : Option T} → b ≡ true → o ≡ then_some b a → o ≡ Some a
+chosen_if e q = rw e at q

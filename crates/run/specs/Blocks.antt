@@ -8,12 +8,6 @@ use Rattle.derivation.specs.Step.{rule_at}
 pub record Marked (word block : ℕ) : Type 0 where
   pub set : word / 2 ^ block % 2 ≡ 1
 
--- one more block marked in a job's word
-pub record Marking (words : List ℕ) (job block : ℕ) (words' : List ℕ) : Type 0 where
-  pub size : length words' ≡ length words
-  pub kept : (q b : ℕ) → Marked (get_or words q 0) b → Marked (get_or words' q 0) b
-  pub new : Marked (get_or words' job 0) block
-
 -- each job's word marks the blocks of the rules that read it, and each job that a rule lowers has one
 pub record Reads (rules : List Rule) (words : List ℕ) : Type 0 where
   pub first : (j : ℕ) → j < length rules → Marked (get_or words (rule_at rules j).x 0) (j / 16)
@@ -24,8 +18,3 @@ pub record Reads (rules : List Rule) (words : List ℕ) : Type 0 where
 pub record Settled (rules : List Rule) (times : List ℤ) (marked from to : ℕ) : Type 0 where
   pub before : (j : ℕ) → j < from → j < length rules → satisfied (rule_at rules j) times ≡ false → Marked marked (j / 16)
   pub after : (j : ℕ) → to ≤ j → j < length rules → satisfied (rule_at rules j) times ≡ false → Marked marked (j / 16)
-
--- every violated rule is in a marked block, and the words tell what to mark
-pub record Tracked (rules : List Rule) (words : List ℕ) (times : List ℤ) (marked : ℕ) : Type 0 where
-  pub reads : Reads rules words
-  pub settled : Settled rules times marked 0 0

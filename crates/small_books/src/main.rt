@@ -5,409 +5,245 @@
 
 ghost use Rattle.std.specs.Prelude.{◌<◌, ◌≤◌};
 
-use planner::{FirstViolated, Outcome, Rule, Solved, Tally};
-use std::io;
+use planner::{Fault, Refusal, Rule, Solved, Tally, first_violated, solve, step};
+use std::fmt::Display;
+use std::{fmt, io};
 
-// Two rules over n jobs are a number: the low three digits to base n are the first rule's jobs, the next, to base 3, is its offset
-// and 1, and what is left is the second rule.
-fn job(n: usize, c: usize) -> u16
+// A job of n, and what is left of a number.
+fn job(n: usize, number: usize) -> u16
     requires { 0 < n }
 {
-    match c % n {
+    match number % n {
         0 => 0,
         1 => 1,
         _ => 2,
     }
 }
 
-// The offset and 1.
-fn above(n: usize, c: usize) -> usize
-    requires { 0 < n }
-    ensures { result ≤ 2 }
-{
-    c / n / n / n % 3
-}
-
-fn offset(n: usize, c: usize) -> i32
-    requires { 0 < n }
-{
-    match above(n, c) {
+fn offset(number: usize) -> i32 {
+    match number % 3 {
         0 => -1,
         1 => 0,
         _ => 1,
     }
 }
 
-fn second(n: usize, c: usize) -> usize
-    requires { 0 < n }
-{
-    c / n / n / n / 3
-}
-
-// The first rule of a number.
-fn rule(n: usize, c: usize) -> Rule
+// A rule over n jobs is a number: its low three digits to base n are the rule's jobs, the next, to base 3, is its offset and 1.
+fn rule(n: usize, number: usize) -> Rule
     requires { 0 < n }
 {
     Rule {
-        x: job(n, c),
-        y: job(n, c / n),
-        z: job(n, c / n / n),
-        k: offset(n, c),
+        x: job(n, number),
+        y: job(n, number / n),
+        z: job(n, number / n / n),
+        k: offset(number / n / n / n),
     }
 }
 
-// A table that begins with both rules of a number; a book of fewer rules lends fewer places of it.
-fn table_of(n: usize, c: usize) -> [Rule; 1025]
+// Two rules are a number: the digits above those of the first are the second's. A book of fewer rules lends fewer of them.
+fn rules_of(n: usize, number: usize) -> [Rule; 2]
     requires { 0 < n }
 {
-    let mut table = lent::no_rules();
-    table[0] = rule(n, c);
-    table[1] = rule(n, second(n, c));
-    table
+    [rule(n, number), rule(n, number / n / n / n / 3)]
 }
 
-// What was found, and in how many steps: a plan at the times -a, -b and -e (kind 0), none (1), or what should not be (2 and more).
-// A job that the book has not stands at 0.
-#[derive(Clone, Copy)]
-struct Answer {
-    kind: usize,
-    a: usize,
-    b: usize,
-    e: usize,
-    steps: u64,
+// What was found: a plan, none, or what should not be. A job that the book has not stands at 0. It is no `Option`, since three things may
+// be found.
+#[derive(Clone, Copy, PartialEq, Eq)]
+enum Answer {
+    Plan([i32; 3]),
+    None,
+    Odd,
 }
 
-fn least(a: usize, b: usize) -> usize
-    ensures { (result ≤ a) × (result ≤ b) }
-{
-    if a < b { a } else { b }
-}
-
-// Minus the time of a job.
-fn depth(p: Answer, job: u16) -> usize
-    ensures { result ≤ 9 }
-{
+fn time_of(times: [i32; 3], job: u16) -> i64 {
     match job {
-        0 => least(p.a, 9),
-        1 => least(p.b, 9),
-        _ => least(p.e, 9),
+        0 => i64::from(times[0]),
+        1 => i64::from(times[1]),
+        _ => i64::from(times[2]),
     }
 }
 
-// The first rule of a number is satisfied by the times.
-fn is_satisfied(n: usize, c: usize, p: Answer) -> bool
-    requires { 0 < n }
-{
-    let left = least(depth(p, job(n, c)), depth(p, job(n, c / n)));
-    let right = depth(p, job(n, c / n / n));
-    left < right + above(n, c)
+// Whether the times keep the rule, written apart from the library's test of a rule, which this program is to check.
+fn is_satisfied(r: Rule, times: [i32; 3]) -> bool {
+    let left = time_of(times, r.x).max(time_of(times, r.y));
+    time_of(times, r.z) <= left.saturating_add(i64::from(r.k))
 }
 
-fn all_satisfied(n: usize, count: usize, c: usize, p: Answer) -> bool
-    requires { 0 < n }
-{
-    match count {
-        0 => true,
-        1 => is_satisfied(n, c, p),
-        _ => {
-            if is_satisfied(n, c, p) {
-                is_satisfied(n, second(n, c), p)
+fn all_satisfied(rules: &[Rule], times: [i32; 3]) -> bool {
+    rules.iter().all(|r| is_satisfied(*r, times))
+}
+
+// The later of two assignments, job by job.
+fn latest_of(s: [i32; 3], t: [i32; 3]) -> [i32; 3] {
+    [s[0].max(t[0]), s[1].max(t[1]), s[2].max(t[2])]
+}
+
+// What a search finds: the latest time of each job, which must make a plan together.
+fn searched(rules: &[Rule]) -> Answer {
+    let mut best = None;
+    for x in -6..=0 {
+        for y in -6..=0 {
+            for z in -6..=0 {
+                let times = [x, y, z];
+                if all_satisfied(rules, times) {
+                    best = Some(latest_of(best.unwrap_or(times), times));
+                }
+            }
+        }
+    }
+    match best {
+        None => Answer::None,
+        Some(times) => {
+            if all_satisfied(rules, times) {
+                Answer::Plan(times)
             } else {
-                false
+                Answer::Odd
             }
         }
     }
 }
 
-// An answer with no times.
-fn bare(kind: usize, steps: u64) -> Answer {
-    Answer {
-        kind: kind,
-        a: 9,
-        b: 9,
-        e: 9,
-        steps: steps,
-    }
-}
-
-// The later of two answers, job by job.
-fn later(p: Answer, q: Answer) -> Answer {
-    Answer {
-        kind: 0,
-        a: least(p.a, q.a),
-        b: least(p.b, q.b),
-        e: least(p.e, q.e),
-        steps: 0,
-    }
-}
-
-// The times of a number below 343.
-fn times_of(i: usize) -> Answer {
-    Answer {
-        kind: 0,
-        a: i % 7,
-        b: i / 7 % 7,
-        e: i / 49 % 7,
-        steps: 0,
-    }
-}
-
-// What a search finds: the latest time of each job, which must make a plan together.
-fn searched(n: usize, count: usize, c: usize) -> Answer
-    requires { 0 < n }
-{
-    let mut best = bare(1, 0);
-    let mut i = 0;
-    while i < 343 {
-        let p = times_of(i);
-        if all_satisfied(n, count, c, p) {
-            best = later(best, p);
-        }
-        i += 1;
-    }
-    if best.kind == 0 {
-        if !all_satisfied(n, count, c, best) {
-            return bare(3, 0);
-        }
-    }
-    best
-}
-
-// Minus the time of a job; 0 for a job that is not there, 9 for a time that no plan has.
-fn depth_at(times: &[i32], job: usize) -> usize {
-    if times.len() <= job {
-        return 0;
-    }
-    match times[job] {
-        0 => 0,
-        -1 => 1,
-        -2 => 2,
-        _ => 9,
-    }
-}
-
-fn told(kind: usize, steps: u64, times: &[i32]) -> Answer {
-    if kind != 0 {
-        return bare(kind, steps);
-    }
-    Answer {
-        kind: 0,
-        a: depth_at(times, 0),
-        b: depth_at(times, 1),
-        e: depth_at(times, 2),
-        steps: steps,
-    }
-}
-
 // What the bench run finds.
-fn solved(n: usize, table: [Rule; 1025], count: usize, times: &mut [i32]) -> Answer {
-    match lent::solve(n, table, count, times) {
-        Solved::Plan(s) => told(0, s, times),
-        Solved::None(s, _) => told(1, s, times),
-        Solved::Refused(_) => told(2, 0, times),
+fn solved(n: usize, rules: &[Rule]) -> Answer
+    requires { n ≤ 3 }
+{
+    let mut times = [0; 3];
+    match solve(n, rules, &mut times[..n]) {
+        Ok(Solved::Plan(_)) => Answer::Plan(times),
+        Ok(Solved::None(_, _)) => Answer::None,
+        Err(_) => Answer::Odd,
     }
 }
 
-fn number_of(found: FirstViolated) -> usize {
-    match found {
-        FirstViolated::Nothing => 0,
-        FirstViolated::At(i) => i,
-        FirstViolated::Refused(_) => 0,
+// The order of hand steps: from the last rule down, from the first up, or always on the first violated one.
+#[derive(Clone, Copy)]
+enum Order {
+    Down,
+    Up,
+    First,
+}
+
+impl Display for Order {
+    fn fmt<W: fmt::Write>(&self, f: &mut fmt::Formatter<W>) -> fmt::Result {
+        match self {
+            Order::Down => write!(f, "DOWN"),
+            Order::Up => write!(f, "UP"),
+            Order::First => write!(f, "FIRST"),
+        }
     }
 }
 
-// The rule that an order names at a turn: from the last rule down (0), from the first up (1), always the first violated (2).
-fn named(order: usize, turn: usize, found: FirstViolated) -> usize {
-    match order {
-        0 => { if turn % 2 == 0 { 1 } else { 0 } }
-        1 => turn % 2,
-        _ => number_of(found),
+impl Order {
+    // The rule that the order names at a turn, where this is found of the board.
+    fn named(self, turn: usize, found: Result<Option<usize>, Refusal>) -> usize {
+        match self {
+            Order::Down => 1 - turn % 2,
+            Order::Up => turn % 2,
+            Order::First => found.unwrap_or(None).unwrap_or(0),
+        }
     }
 }
 
-// One hand step; a rule that is satisfied or is not there is refused.
-fn one_step(
-    order: usize,
-    turn: usize,
-    n: usize,
-    table: [Rule; 1025],
-    count: usize,
-    times: &mut [i32],
-    tally: Tally,
-) -> Tally {
-    let found = lent::first_violated(n, table, count, times);
-    let number = named(order, turn, found);
-    let out = lent::step(n, table, count, times, tally, number);
-    out.tally
-}
-
-// Hand steps until all are refused: a book takes at most 3 * 2 + 1, and any two turns name a violated rule.
-fn all_steps(
-    order: usize,
-    n: usize,
-    table: [Rule; 1025],
-    count: usize,
-    times: &mut [i32],
-) -> Tally {
+// Hand steps until all are refused: a book takes at most 3 * 2 + 1, and any two turns name a violated rule. A rule that is satisfied or
+// is not there is refused, and nothing changes.
+fn all_steps(order: Order, n: usize, rules: &[Rule], times: &mut [i32]) -> Tally {
     let mut tally = Tally {
         steps: 0,
         minutes: 0,
     };
-    let mut turn = 0;
-    while turn < 16 {
-        tally = one_step(order, turn, n, table, count, times, tally);
-        turn += 1;
+    for turn in 0..16 {
+        let found = first_violated(n, rules, times);
+        let _ = step(n, rules, times, &mut tally, order.named(turn, found));
     }
     tally
 }
 
-// 1 where a board that shows none refused the step, else 2.
-fn fallen(said: Outcome) -> usize {
-    match said {
-        Outcome::Done => 2,
-        Outcome::Refused(r) => { if r.number == 25 { 1 } else { 2 } }
-    }
-}
-
-// How hand steps ended: 0 with all rules satisfied, 1 with a board that shows none, so that one more step is refused for that; else 2.
-fn ending(n: usize, table: [Rule; 1025], count: usize, times: &mut [i32], tally: Tally) -> usize {
-    let more = lent::step(n, table, count, times, tally, 0);
-    let said = more.said;
-    match lent::first_violated(n, table, count, times) {
-        FirstViolated::Nothing => 0,
-        FirstViolated::At(_) => fallen(said),
-        FirstViolated::Refused(_) => 2,
-    }
-}
-
-// What hand steps in an order find; the minutes of a plan must be the sum of the depths.
-fn by_hand(order: usize, n: usize, table: [Rule; 1025], count: usize, times: &mut [i32]) -> Answer {
-    let tally = all_steps(order, n, table, count, times);
-    let end = ending(n, table, count, times, tally);
-    let p = told(end, tally.steps, times);
-    let sum = depth(p, 0) + depth(p, 1) + depth(p, 2);
-    if end == 0 {
-        if tally.minutes != sum as u64 {
-            return bare(2, 0);
-        }
-    }
-    p
-}
-
-fn same(p: Answer, q: Answer) -> bool {
-    if p.kind != q.kind {
-        return false;
-    }
-    if p.a != q.a {
-        return false;
-    }
-    if p.b != q.b {
-        return false;
-    }
-    p.e == q.e
-}
-
-// What hand steps in an order find; kind 2 where the run differs from them or from the search.
-fn agreed(order: usize, n: usize, table: [Rule; 1025], count: usize, found: Answer) -> Answer
+// What hand steps in an order find, and their number. They end with all rules satisfied, or with a board that shows none, so that one
+// more step is refused for that. The minutes of a plan must be the sum of the depths.
+fn by_hand(order: Order, n: usize, rules: &[Rule]) -> (Answer, u64)
     requires { n ≤ 3 }
 {
-    let mut run: [i32; 3] = [0, 0, 0];
-    let mut board: [i32; 3] = [0, 0, 0];
-    let r = solved(n, table, count, &mut run[0..n]);
-    let p = by_hand(order, n, table, count, &mut board[0..n]);
-    if !same(found, r) {
-        return bare(2, 0);
-    }
-    if same(r, p) { p } else { bare(2, 0) }
-}
-
-// What is found of the book of a number.
-fn tried(order: usize, n: usize, count: usize, c: usize) -> Answer
-    requires { (0 < n) × (n ≤ 3) }
-{
-    let found = searched(n, count, c);
-    agreed(order, n, table_of(n, c), count, found)
+    let mut times = [0; 3];
+    let mut tally = all_steps(order, n, rules, &mut times[..n]);
+    let Tally { steps, minutes } = tally;
+    let more = step(n, rules, &mut times[..n], &mut tally, 0);
+    let depth = times.iter().fold(
+        0u64,
+        |sum, t| sum.saturating_add(u64::from(t.unsigned_abs())),
+    );
+    let answer = match (first_violated(n, rules, &times[..n]), more) {
+        (Ok(None), _) if minutes == depth => Answer::Plan(times),
+        (Ok(Some(_)), Err(refusal)) if refusal.fault == Fault::ShowsNone => Answer::None,
+        _ => Answer::Odd,
+    };
+    (answer, steps)
 }
 
 #[derive(Clone, Copy)]
-struct Counts {
+struct Sums {
     plans: u64,
     nones: u64,
     steps: u64,
     differing: u64,
 }
 
-// A sum of counts, which are all far below the bound.
-fn plus(a: u64, b: u64) -> u64 {
-    if 1000000 < a {
-        return a;
-    }
-    if 1000000 < b { b } else { a + b }
-}
-
-fn bit(b: bool) -> u64 {
-    if b { 1 } else { 0 }
-}
-
-fn counted(t: Counts, p: Answer) -> Counts {
-    Counts {
-        plans: plus(t.plans, bit(p.kind == 0)),
-        nones: plus(t.nones, bit(p.kind == 1)),
-        steps: plus(t.steps, p.steps),
-        differing: plus(t.differing, bit(1 < p.kind)),
+impl Display for Sums {
+    fn fmt<W: fmt::Write>(&self, f: &mut fmt::Formatter<W>) -> fmt::Result {
+        let Sums {
+            plans,
+            nones,
+            steps,
+            differing,
+        } = self;
+        write!(
+            f,
+            "PLANS {plans} NONES {nones} STEPS {steps} DIFFERING {differing}"
+        )
     }
 }
 
-// All books of that many rules, which are `many`.
-fn books(order: usize, n: usize, count: usize, many: usize) -> Counts
-    requires { (0 < n) × (n ≤ 3) }
+impl Sums {
+    // Sums the book of some rules: what hand steps find, where the run and the search find the same.
+    fn count(&mut self, order: Order, n: usize, rules: &[Rule])
+        requires { n ≤ 3 }
+    {
+        let (answer, steps) = by_hand(order, n, rules);
+        if answer != searched(rules) || answer != solved(n, rules) {
+            self.differing = self.differing.saturating_add(1);
+            return;
+        }
+        self.steps = self.steps.saturating_add(steps);
+        match answer {
+            Answer::Plan(_) => self.plans = self.plans.saturating_add(1),
+            Answer::None => self.nones = self.nones.saturating_add(1),
+            Answer::Odd => self.differing = self.differing.saturating_add(1),
+        }
+    }
+}
+
+// All books of `count` rules, which are `many`.
+fn show(rt: &impl Print, order: Order, n: usize, count: usize, many: usize) -> io::Result<()>
+    requires { (0 < n) × (n ≤ 3) × (count ≤ 2) }
 {
-    let mut t = Counts {
+    let mut counts = Sums {
         plans: 0,
         nones: 0,
         steps: 0,
         differing: 0,
     };
-    let mut i = 0;
-    while i < many {
-        t = counted(t, tried(order, n, count, i));
-        i += 1;
+    for number in 0..many {
+        counts.count(order, n, &rules_of(n, number)[..count]);
     }
-    t
-}
-
-fn say(rt: &impl Print, word: &str, n: u64) -> io::Result<()> {
-    print!(rt; "{word}{n}")
-}
-
-fn show(
-    rt: &impl Print,
-    name: &str,
-    order: usize,
-    n: usize,
-    count: usize,
-    many: usize,
-) -> io::Result<()>
-    requires { (0 < n) × (n ≤ 3) }
-{
-    let t = books(order, n, count, many);
-    print!(rt; "{name}")?;
-    say(rt, " JOBS ", n as u64)?;
-    say(rt, " RULES ", count as u64)?;
-    say(rt, " BOOKS ", many as u64)?;
-    say(rt, " PLANS ", t.plans)?;
-    say(rt, " NONES ", t.nones)?;
-    say(rt, " STEPS ", t.steps)?;
-    say(rt, " DIFFERING ", t.differing)?;
-    println!(rt)
+    println!(rt; "{order} JOBS {n} RULES {count} BOOKS {many} {counts}")
 }
 
 fn orders(rt: &impl Print, n: usize, count: usize, many: usize) -> io::Result<()>
-    requires { (0 < n) × (n ≤ 3) }
+    requires { (0 < n) × (n ≤ 3) × (count ≤ 2) }
 {
-    show(rt, "DOWN", 0, n, count, many)?;
-    show(rt, "UP", 1, n, count, many)?;
-    show(rt, "FIRST", 2, n, count, many)
+    show(rt, Order::Down, n, count, many)?;
+    show(rt, Order::Up, n, count, many)?;
+    show(rt, Order::First, n, count, many)
 }
 
 fn main(rt: HostRuntime) -> io::Result<()> {

@@ -1,65 +1,25 @@
 -- Loops over a whole assignment: tests, the sum, and clearing. Assumes nothing.
 use mathlib.Core.Path.{◌≡◌, refl, sym, ap, subst, ◌∙◌}
-use mathlib.Core.Bool.{Bool, true, false}
+use mathlib.Core.Bool.{Bool, true, false, ◌||◌, ◌&&◌}
 use mathlib.Core.List.{List, [], ◌∷◌}
 use Prim.Native.Nat.{ℕ, zero, suc, ◌+◌, ◌*◌, ◌<◌, ◌≤◌, ◌^◌}
 use native.Mathlib.Numerals.{add-one}
 use native.Mathlib.Omega.{arith}
-use lib.ListN.{length, drop, set, replicate, length-set, length-replicate, get_or-replicate, drop_of_length-le}
-use lib.Seq.{drop-cons, ext_get_or, get_or-set_same}
-use native.Mathlib.Decide.{dec_lt}
+use lib.ListN.{length, drop, drop_of_length-le}
+use lib.Seq.{drop-cons}
 use lib.IntN.{ℤ, pos, nat_abs, neg_ℤ, ◌+ℤ◌}
-use lib.Signed.{◌≤ℤ◌, lt_z}
+use Rattle.std.specs.Prelude.{IsTrue, ◌↔◌, SomeIndex, EachIndex}
+use lib.Signed.{◌<ℤ◌, ◌≤ℤ◌, lt_z, le_z}
 use lib.Dec.{leb}
 use Rattle.maxatom.specs.Rule.{time_at, eq_z}
 use Rattle.maxatom.specs.Book.{NotAfterZero, minus}
-use Rattle.maxatom.proofs.Integers.{up, le_make, lt_true, lt_false, false_le, true_le, add_parts, neg_parts, abs_parts, up_zero, eq_make, true_eq, eq_true, by_test}
-use Rattle.maxatom.proofs.Lists.{set_time}
+use Rattle.maxatom.proofs.Choose.{clash}
+use Rattle.maxatom.proofs.Integers.{le_true, true_lt, up, le_make, lt_true, true_le, add_parts, neg_parts, abs_parts, up_zero, eq_make, true_eq, eq_true, by_test}
 use Rattle.derivation.specs.declared.Tally.{Tally}
 use Rattle.derivation.specs.Step.{in_range, below_floor, sum_z, fits}
 
 pub head_at : (b : List ℤ) (i : ℕ) → i < length b → drop i b ≡ time_at b i ∷ drop (i + 1) b
 head_at b i h = rw (add-one, drop-cons b i (pos 0))
-
--- a test of a list has come to place i
-pub record Scanned (test : List ℤ → Bool) (times : List ℤ) (i : ℕ) : Type 0 where
-  pub low : i ≤ length times
-  pub rest : test (drop i times) ≡ test times
-
-pub scanned_none : (test : List ℤ → Bool) (times : List ℤ) → Scanned test times 0
-scanned_none test times = record { low = omega arith; rest = refl }
-
-module _ {test : List ℤ → Bool} {times : List ℤ} {i : ℕ} (p : Scanned test times i) where
-  pub scanned_here : i < length times → (b : Bool) → test (time_at times i ∷ drop (i + 1) times) ≡ b → b ≡ test times
-  scanned_here h b e = sym e ∙ (ap test (sym (head_at times i h)) ∙ p.rest)
-
-  pub scanned_next : i < length times → test (time_at times i ∷ drop (i + 1) times) ≡ test (drop (i + 1) times) → Scanned test times (i + 1)
-  scanned_next h e = record { low = omega arith; rest = scanned_here h _ e }
-
-  pub scanned_all : length times ≤ i → test [] ≡ test times
-  scanned_all h = ap test (sym (drop_of_length-le times h)) ∙ p.rest
-
--- the tests at their first time
-module _ (t : ℤ) (times : List ℤ) where
-  pub floor_here : (f : ℤ) → lt_z t f ≡ true → below_floor f (t ∷ times) ≡ true
-  unfolding below_floor
-  floor_here f e = rw e
-
-  pub floor_next : (f : ℤ) → lt_z t f ≡ false → below_floor f (t ∷ times) ≡ below_floor f times
-  unfolding below_floor
-  floor_next f e = rw e
-
-  pub range_low : (k : ℕ) → lt_z t (minus (2 * k)) ≡ true → in_range k (t ∷ times) ≡ false
-  unfolding in_range
-  range_low k e = rw (false_le {a = minus (2 * k)} {b = t} (lt_true e))
-
-  pub range_high : (k : ℕ) → lt_z t (minus (2 * k)) ≡ false → lt_z (pos 0) t ≡ true → in_range k (t ∷ times) ≡ false
-  unfolding in_range
-  range_high k e g = rw (true_le {a = minus (2 * k)} {b = t} (lt_false t (minus (2 * k)) e), false_le {a = t} {b = pos 0} (lt_true g))
-
-  pub range_next : (k : ℕ) → lt_z t (minus (2 * k)) ≡ false → lt_z (pos 0) t ≡ false → in_range k (t ∷ times) ≡ in_range k times
-  unfolding in_range
-  range_next k e g = rw (true_le {a = minus (2 * k)} {b = t} (lt_false t (minus (2 * k)) e), true_le {a = t} {b = pos 0} (lt_false (pos 0) t g))
 
 -- none above zero: the sum's parts
 down_up : (times : List ℤ) → NotAfterZero times → up (sum_z times) ≡ 0
@@ -126,33 +86,53 @@ module _ (tally : Tally) (times : List ℤ) (e : NotAfterZero times) where
       pos_same : {m n : ℕ} → pos m ≡ pos n → m ≡ n
       pos_same q = cc
 
--- the first i times are cleared
-pub record Cleared (before after : List ℤ) (i : ℕ) : Type 0 where
-  pub size : length after ≡ length before
-  pub low : i ≤ length before
-  pub zero_to : (job : ℕ) → job < i → time_at after job ≡ pos 0
+-- the tests of a board, by each of its times
+same_bool : (b d : Bool) → (b ≡ true → d ≡ true) → (d ≡ true → b ≡ true) → b ≡ d
+same_bool true d p q = sym (p refl)
+same_bool false true p q = q refl
+same_bool false false p q = refl
 
-pub cleared_none : (times : List ℤ) → Cleared times times 0
-cleared_none times = record { size = refl; low = omega arith; zero_to = λ job h. absurd (omega arith) }
+some_below : (f : ℤ) (times : List ℤ) → below_floor f times ≡ true → SomeIndex times (λ j. time_at times j <ℤ f)
+unfolding below_floor
+some_below f [] e = clash e refl
+some_below f (t ∷ times) e = go (lt_z t f) refl (some_below f times) e
+  where
+    go : (b : Bool) → lt_z t f ≡ b → (below_floor f times ≡ true → SomeIndex times (λ j. time_at times j <ℤ f)) →
+        (b || below_floor f times) ≡ true → SomeIndex (t ∷ times) (λ j. time_at (t ∷ times) j <ℤ f)
+    go true p on q = (0, omega arith, lt_true p)
+    go false p on q = let (j, h, l) = on q in (suc j, omega arith, l)
 
-module _ {before after : List ℤ} {i : ℕ} (p : Cleared before after i) where
-  pub cleared_next : i < length after → Cleared before (set after i (pos 0)) (i + 1)
-  cleared_next h =
-      let n = p.size in
-      record {
-        size = length-set after i (pos 0) ∙ n;
-        low = omega arith;
-        zero_to = λ job q. by job q;
-      }
-    where
-      by : (job : ℕ) → job < i + 1 → time_at (set after i (pos 0)) job ≡ pos 0
-      by job q = go (dec_lt job i)
-        where
-          go : Dec (job < i) → time_at (set after i (pos 0)) job ≡ pos 0
-          go (yes l) = set_time (λ (t : ℤ). t ≡ pos 0) after i job (pos 0) (p.zero_to job l) (λ _. refl)
-          go (no l) = let e : job ≡ i = omega arith in rw e (get_or-set_same after i (pos 0) (pos 0) h)
+below_some : (f : ℤ) (times : List ℤ) (j : ℕ) → j < length times → time_at times j <ℤ f → below_floor f times ≡ true
+unfolding below_floor
+below_some f [] j h l = absurd (omega arith)
+below_some f (t ∷ times) zero h l = rw (true_lt l)
+below_some f (t ∷ times) (suc j) h l = rw (below_some f times j (omega arith) l) (or_true (lt_z t f))
+  where
+    or_true : (b : Bool) → (b || true) ≡ true
+    or_true true = refl
+    or_true false = refl
 
-  pub cleared_all : length after ≤ i → after ≡ replicate (length before) (pos 0)
-  cleared_all h =
-      ext_get_or (pos 0) after (replicate (length before) (pos 0)) (p.size ∙ sym (length-replicate (length before) (pos 0)))
-      (λ job q. p.zero_to job (omega arith) ∙ sym (get_or-replicate (length before) job (pos 0) (pos 0) (let n = p.size in omega arith)))
+pub floor_any : (f : ℤ) (times : List ℤ) (b : Bool) → (IsTrue b ↔ SomeIndex times (λ j. time_at times j <ℤ f)) → b ≡ below_floor f times
+floor_any f times b e = same_bool b (below_floor f times) (λ p. let (j, h, l) = e.0 p in below_some f times j h l) (λ p. e.1 (some_below f times p))
+
+range_make : (k : ℕ) (times : List ℤ) → EachIndex times (λ j. (minus (2 * k) ≤ℤ time_at times j) × (time_at times j ≤ℤ pos 0)) → in_range k times ≡ true
+unfolding in_range
+range_make k [] h = refl
+range_make k (t ∷ times) h = rw (true_le (h 0 (omega arith)).0, true_le (h 0 (omega arith)).1) (range_make k times (λ j q. h (suc j) (omega arith)))
+
+range_read : (k : ℕ) (times : List ℤ) → in_range k times ≡ true → EachIndex times (λ j. (minus (2 * k) ≤ℤ time_at times j) × (time_at times j ≤ℤ pos 0))
+unfolding in_range
+range_read k [] e j h = absurd (omega arith)
+range_read k (t ∷ times) e j h = go (le_z (minus (2 * k)) t) (le_z t (pos 0)) refl refl (range_read k times) e j h
+  where
+    go : (b d : Bool) → le_z (minus (2 * k)) t ≡ b → le_z t (pos 0) ≡ d →
+        (in_range k times ≡ true → EachIndex times (λ j. (minus (2 * k) ≤ℤ time_at times j) × (time_at times j ≤ℤ pos 0))) → ((b && d) && in_range k times) ≡ true →
+        EachIndex (t ∷ times) (λ j. (minus (2 * k) ≤ℤ time_at (t ∷ times) j) × (time_at (t ∷ times) j ≤ℤ pos 0))
+    go true true p q on r zero h = (le_true p, le_true q)
+    go true true p q on r (suc j) h = on r j (omega arith)
+    go true false p q on r j h = clash r refl
+    go false d p q on r j h = clash r refl
+
+pub range_all : (k : ℕ) (times : List ℤ) (b : Bool) →
+    (IsTrue b ↔ EachIndex times (λ j. (minus (2 * k) ≤ℤ time_at times j) × (time_at times j ≤ℤ pos 0))) → b ≡ in_range k times
+range_all k times b e = same_bool b (in_range k times) (λ p. range_make k times (e.0 p)) (λ p. e.1 (range_read k times p))

@@ -5,5 +5,5 @@
 mod board;
 mod rule;
 
-pub use board::{below_floor, clear, in_range, initial, tally_fits};
-pub use rule::{is_equality, is_satisfied, larger, left_side, lower, plus};
+pub use board::{below_floor, in_range, initial, tally_fits};
+pub use rule::{is_equality, is_satisfied, left_side, lower, plus};

@@ -5,17 +5,11 @@ ghost use Rattle.solver.specs.Rules.{Named, Lowerable};
 
 use maxatom::Rule;
 
-pub fn larger(a: i32, b: i32) -> i32
-    ensures { result ≡ max_z a b }
-{
-    if a < b { b } else { a }
-}
-
 // A sum of two, which 64 bits hold whatever they are.
 pub fn plus(a: i32, b: i32) -> i64
     ensures { result ≡ a +ℤ b }
 {
-    (a as i64) + (b as i64)
+    i64::from(a) + i64::from(b)
 }
 
 // max(x, y) + k.
@@ -23,29 +17,22 @@ pub fn left_side(r: Rule, times: &[i32]) -> i64
     requires { Named r (length times.now) }
     ensures { result ≡ left_side r times.now }
 {
-    let x = r.x as usize;
-    let y = r.y as usize;
-    plus(larger(times[x], times[y]), r.k)
+    plus(times[r.x as usize].max(times[r.y as usize]), r.k)
 }
 
 pub fn is_satisfied(r: Rule, times: &[i32]) -> bool
     requires { Named r (length times.now) }
     ensures { result ≡ satisfied r times.now }
 {
-    let third = r.z as usize;
-    let t = times[third] as i64;
-    t <= left_side(r, times)
+    i64::from(times[r.z as usize]) <= left_side(r, times)
 }
 
-// A rule is tight.
+// The rule is an equality at the times: it is tight.
 pub fn is_equality(r: Rule, times: &[i32]) -> bool
     requires { Named r (length times.now) }
     ensures { result ≡ tight r times.now }
 {
-    let z = r.z as usize;
-    let t = times[z] as i64;
-    let left = left_side(r, times);
-    if left <= t { t <= left } else { false }
+    i64::from(times[r.z as usize]) == left_side(r, times)
 }
 
 // Sets z's time to the rule's left side, and tells the minutes taken off.
@@ -57,7 +44,7 @@ pub fn lower(r: Rule, times: &mut [i32]) -> u64
 {
     let z = r.z as usize;
     let left = left_side(r, times);
-    let before = times[z] as i64;
+    let before = i64::from(times[z]);
     times[z] = left as i32;
     (before - left) as u64
 }

@@ -1,8 +1,10 @@
 -- What is said of one rule of a table.
-use Rattle.std.specs.Prelude.{cond, ℕ}
+use Rattle.std.specs.Prelude.{cond, ℕ, Result, Ok, Err, ⊤}
 use Rattle.maxatom.specs.declared.Rule.{Rule}
 use Rattle.derivation.specs.Refusals.{job_outside, offset_outside}
+use Rattle.derivation.specs.declared.Fault.{Fault}
+use Rattle.derivation.specs.declared.Fault.TheVariants.{JobNumber, Offset}
 
--- its number, 6 before 7; 0 where none is said
-unfoldable pub fault_of : ℕ → Rule → ℕ
-fault_of jobs r = cond (job_outside jobs r) 6 (cond (offset_outside r) 7 0)
+-- a job number that is not below the job count comes before an offset outside its bounds
+unfoldable pub rule_fault : ℕ → Rule → Result ⊤ Fault
+rule_fault jobs r = cond (job_outside jobs r) (Err JobNumber) (cond (offset_outside r) (Err Offset) (Ok tt))

@@ -1,16 +1,9 @@
--- The passes taken so far, and the room as it was lent.
-use Rattle.std.proofs.Common.{◌≡◌, ◌<◌, ◌≤◌, ◌^◌, length}
-use Rattle.table.specs.Columns.{rules_of}
-use Rattle.jump.specs.Leaps.{Sized, Passed}
+use Rattle.jump.specs.Leaps.{Passed}
 use Rattle.parts.proofs.advance_apart.Given as goal
 
-abbrev pub invariant-loop-t : goal.invariant-loop-t
-invariant-loop-t l = record {
-  passed : Passed (rules_of l.xs l.ys l.zs l.ks l.count) l.f l.initial.times l.times l.s;
-  few : 1 ≤ l.t → l.s < 2 ^ 62;
-  size : length l.times ≡ length l.initial.times;
-  sized : Sized (length l.initial.times) l.drops l.near l.far;
-}
+-- the passes taken so far
+abbrev pub invariant-loop-found : goal.invariant-loop-found
+invariant-loop-found l = Passed l.rules l.f l.initial.times l.times l.s
 
-abbrev pub decreases-loop-t : goal.decreases-loop-t
-decreases-loop-t l = l.t
+abbrev pub decreases-loop-found : goal.decreases-loop-found
+decreases-loop-found l = l.t

@@ -1,57 +1,46 @@
-use Rattle.std.proofs.Common.{arith, ◌∙◌}
+use Rattle.std.proofs.Common.{arith, rules, sym, ◌∙◌}
+use mir.Syntax.{w32}
+use mir.Val.{SFits}
 use mir.Facts.{to_z-of_z}
-use Rattle.table.proofs.Rows.{rows_length}
-use Rattle.run.specs.Passing.{run_of}
-use Rattle.run.proofs.Runs.{few_fit, looping_more, solved_fell, solved_still}
-use Rattle.run.proofs.Watching.{watched, watched_less, still_settled}
+use Rattle.std.proofs.lemmas.Result.{err_from_is_err_and}
+use Rattle.run.proofs.Runs.{few_fit, ends_fell, ends_still, goes_up}
+use Rattle.run.proofs.Watching.{watched, watched_less, still_settled, chosen, chosen_if}
 use Rattle.run.proofs.finish.Goals as goal
 
-pub returns-then-fell : goal.returns-then-fell
-returns-then-fell c =
-    let said = rw (to_z-of_z c.ranges.f, c.requires.f_value) at c.pass-p.ensures.times_after in
-    solved_fell c.loop-p.invariant.looping c.pass-p.result _ said c.if-fell.true
+pub returns-in_err-p : goal.returns-in_err-p
+returns-in_err-p c =
+    let err = err_from_is_err_and c.from_residual.result c.from_residual.ensures.1 in
+    rw (err.1, err.2) (ends_fell c.loop-p.invariant.looping _ c.in_err-p.ensures.times_after)
 
-pub returns-then-made-s : goal.returns-then-made-s
-returns-then-made-s c =
-    let said = rw (to_z-of_z c.ranges.f, c.requires.f_value) at c.pass-p.ensures.times_after in
-    solved_still c.loop-p.invariant.looping c.pass-p.result _ said c.if-fell.false c.if-made-s.true
+pub returns-then-p-steps : goal.returns-then-p-steps
+returns-then-p-steps c =
+    ends_still c.loop-p.invariant.looping c.in_ok-p.p c.in_ok-p.ensures.times_after c.if-p-steps.true
 
-pub overflow_sub-new : goal.overflow_sub-new
-overflow_sub-new c =
-    let said = rw (to_z-of_z c.ranges.f, c.requires.f_value) at c.pass-p.ensures.times_after in
-    looping_more c.loop-p.invariant.looping (run_of c.pass-p.result c.pass-p.new.times) said
+pub overflow_sub-made : goal.overflow_sub-made
+overflow_sub-made c =
+    goes_up c.loop-p.invariant.looping c.in_ok-p.p c.in_ok-p.ensures.times_after
 
-pub jump_on-w-requires-clause-count_bound : goal.jump_on-w-requires-clause-count_bound
-jump_on-w-requires-clause-count_bound c =
-    let a = c.args in
-    let k = c.requires.looping.running.accepted in
-    (omega (arith, k.short, rows_length a.xs.now a.ys.now a.zs.now a.ks.now 0 a.count), omega (arith, k.few))
-
-pub overflow_add-s : goal.overflow_add-s
-overflow_add-s c =
-    let said = rw (to_z-of_z c.ranges.f, c.requires.f_value) at c.pass-p.ensures.times_after in
-    let taken = rw (to_z-of_z c.ranges.f, c.requires.f_value) at c.jump_on-w.ensures in
-    let again = watched c.loop-p.invariant.looping c.pass-p.result said c.if-fell.false c.if-made-s.false taken in
-    omega (arith, few_fit again.running)
+pub overflow_add-steps : goal.overflow_add-steps
+overflow_add-steps c =
+    let fits : SFits w32 c.args.book.floor = search rules in
+    let taken = rw (to_z-of_z fits, c.args.book.floor_is) at c.jump_on-jumped.ensures in
+    omega (arith, few_fit (watched c.loop-p.invariant.looping c.in_ok-p.p c.in_ok-p.ensures.times_after c.if-p-steps.false taken).running)
 
 pub loop-p-smaller : goal.loop-p-smaller
 loop-p-smaller c =
-    let said = rw (to_z-of_z c.ranges.f, c.requires.f_value) at c.pass-p.ensures.times_after in
-    let taken = rw (to_z-of_z c.ranges.f, c.requires.f_value) at c.jump_on-w.ensures in
-    watched_less c.loop-p.invariant.looping c.pass-p.result said c.if-fell.false c.if-made-s.false taken
+    let fits : SFits w32 c.args.book.floor = search rules in
+    let taken = rw (to_z-of_z fits, c.args.book.floor_is) at c.jump_on-jumped.ensures in
+    watched_less c.loop-p.invariant.looping c.in_ok-p.p c.in_ok-p.ensures.times_after c.if-p-steps.false taken
 
 pub loop-p-preserved : goal.loop-p-preserved
 loop-p-preserved c =
-    let said = rw (to_z-of_z c.ranges.f, c.requires.f_value) at c.pass-p.ensures.times_after in
-    let taken = rw (to_z-of_z c.ranges.f, c.requires.f_value) at c.jump_on-w.ensures in
-    let v = c.loop-p.invariant in
-    let n = c.jump_on-w.auto in
+    let fits : SFits w32 c.args.book.floor = search rules in
+    let taken = rw (to_z-of_z fits, c.args.book.floor_is) at c.jump_on-jumped.ensures in
     record {
-      looping = watched v.looping c.pass-p.result said c.if-fell.false c.if-made-s.false taken;
-      settled = λ e.
-          let q = c.is_sparse-sparse.ensures e in
-          still_settled taken q.1 (c.pass-p.ensures.settled q.0 c.if-fell.false);
-      marks_size = n.marks ∙ v.marks_size;
-      was_size = n.was ∙ v.was_size;
-      sized = record { drops_size = n.drops ∙ v.sized.drops_size; near_size = n.near ∙ v.sized.near_size; far_size = n.far ∙ v.sized.far_size };
+      looping = watched c.loop-p.invariant.looping c.in_ok-p.p c.in_ok-p.ensures.times_after c.if-p-steps.false taken;
+      settled = λ x e.
+          let marks = chosen _ _ x (sym c.then_some-marked.ensures ∙ e) in
+          let sparse = c.is_sparse.ensures marks.0 in
+          let words = chosen_if sparse.0 c.then_some.ensures in
+          rw (← marks.1) (still_settled taken sparse.1 (c.in_ok-p.ensures.settled_after _ words));
     }

@@ -9,5 +9,5 @@ told e q f g = rw (to_z-of_z f, to_z-of_z g, q) at e
 
 pub loop-i-preserved : goal.loop-i-preserved
 loop-i-preserved c =
-    drops_next c.loop-i.invariant (told (c.is_earlier.ensures c.if-not-is_earlier.false) c.wide.ensures.0 (search rules) (search rules))
-    (told (c.is_earlier-in-loop-i.ensures c.if-not-is_earlier-2.false) c.product.ensures.0 (search rules) (search rules))
+    drops_next c.loop-i.invariant (told (c.is_earlier.ensures c.if-not-is_earlier.false) c.from.ensures (search rules) (search rules))
+    (told (c.is_earlier-else-not-is_earlier.ensures c.if-not-is_earlier-2.false) c.product.ensures.0 (search rules) (search rules))

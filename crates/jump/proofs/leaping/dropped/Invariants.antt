@@ -1,9 +1,5 @@
-use Rattle.std.proofs.Common.{length, ◌-◌}
 use Rattle.jump.proofs.Jumping.{Drops}
 use Rattle.jump.proofs.leaping.dropped.Given as goal
 
 abbrev pub invariant-loop-i : goal.invariant-loop-i
 invariant-loop-i l = Drops l.t l.drops l.times l.near l.far l.i
-
-abbrev pub decreases-loop-i : goal.decreases-loop-i
-decreases-loop-i l = length l.times - l.i

@@ -1,20 +1,19 @@
-use Rattle.std.proofs.Common.{◌≡◌, ◌∙◌, length, arith}
+use Rattle.std.proofs.Common.{arith, rules}
 use mir.Facts.{to_z-of_z}
 use Rattle.jump.proofs.Jumping.{leapt}
 use Rattle.jump.proofs.leaping.leap.Goals as goal
 
 -- after the copy: what was tested
 pub returns : goal.returns
-returns c =
-    let far_long : length c.spread.new.far ≡ length c.args.times.now = c.spread.auto.far ∙ c.requires.sized.far_size in
+returns g c =
     leapt (c.dropped.ensures c.if-not-dropped.false)
-    c.requires.sized.drops_size
-    (c.rounds-s.auto.near ∙ (c.spread.auto.near ∙ c.requires.sized.near_size))
-    (omega arith)
-    (omega arith)
+    c.requires.drops_len
+    (search rules)
+    c.if-t-lt1.false
+    c.if-t-gt536870912.false
     (c.spread.ensures c.if-not-spread.false)
-    (rw (to_z-of_z c.ranges.f) at c.rounds-s.ensures)
-    (omega arith)
-    far_long
-    (c.rounds-s.auto.far ∙ far_long)
-    c.copy.ensures
+    (rw (to_z-of_z c.ranges.f) at c.in_ok-steps.ensures)
+    (omega (arith, c.in_ok-steps.ensures.some))
+    (search rules)
+    (search rules)
+    c.copy_from_slice.ensures.after

@@ -1,9 +1,9 @@
-use Rattle.table.specs.Columns.{rules_of}
-use Rattle.jump.proofs.Jumping.{Leaping}
+use Rattle.std.proofs.Common.{◌≡◌, length}
+use Rattle.jump.specs.Leaps.{Passed}
 use Rattle.jump.proofs.leaping.repeat.Given as goal
 
 abbrev pub invariant-loop-t : goal.invariant-loop-t
-invariant-loop-t l = Leaping (rules_of l.xs l.ys l.zs l.ks l.count) l.f l.initial.times l.initial.s l.drops l.near l.far l.times l.s
+invariant-loop-t g l = record { passed : Passed l.rules l.f l.fn.times l.times l.steps; size : length l.times ≡ length l.fn.times }
 
 abbrev pub decreases-loop-t : goal.decreases-loop-t
-decreases-loop-t l = l.t
+decreases-loop-t g l = l.t

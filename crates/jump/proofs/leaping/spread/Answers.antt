@@ -2,25 +2,20 @@ use Rattle.std.proofs.Common.{◌≡◌, ap, ◌∙◌, ℕ, pos, ◌+ℤ◌, �
 use mir.Facts.{to_z-of_z}
 use Rattle.maxatom.specs.Rule.{time_at}
 use Rattle.maxatom.proofs.Integers.{lt_false}
-use Rattle.table.proofs.Signed.{widened}
-use Rattle.jump.proofs.Jumping.{filled_next, copied_all, fits_between, earlier_le}
+use Rattle.jump.proofs.Jumping.{filled_next, fits_between, earlier_le}
 use Rattle.jump.proofs.leaping.spread.Goals as goal
 
 pub loop-i-preserved : goal.loop-i-preserved
 loop-i-preserved c =
-    let e = c.earlier-e.result in
+    let e = c.earlier-low.result in
     let p = c.product.result in
     let here : SFits w32 (time_at c.args.times.now c.loop-i.i) = search rules in
     let wide : SFits w64 e = search rules in
     -- how the far time lies below the time
-    let below : time_at c.args.times.now c.loop-i.i ≡ e +ℤ pos p = rw (to_z-of_z here) at c.earlier-e.ensures in
-    let high : c.args.f ≤ℤ e = lt_false e c.args.f (rw (to_z-of_z wide, widened c.ranges.f) at c.if-e-f.false) in
-    let fits : SFits w32 e = fits_between c.ranges.f here high (earlier_le e p below) in (
-      filled_next c.loop-i.invariant.0 _ (to_z-of_z here) (omega arith),
-      filled_next c.loop-i.invariant.1 _
-          (rw (to_z-of_z wide, to_z-of_z fits)
-          (below ∙ ap (λ (m : ℕ). e +ℤ pos m) c.product.ensures.0)) (omega arith),
-    )
-
-pub returns : goal.returns
-returns c e = record { near_is = copied_all c.loop-i.invariant.0 c.loop-i-test.false; far_is = λ job h. c.loop-i.invariant.1.each job (omega arith) }
+    let below : time_at c.args.times.now c.loop-i.i ≡ e +ℤ pos p = rw (to_z-of_z here) at c.earlier-low.ensures in
+    let floor : SFits w64 c.from.result = search rules in
+    let high : c.args.f ≤ℤ e = lt_false e c.args.f (rw (to_z-of_z wide, to_z-of_z floor, rw (to_z-of_z c.ranges.f) at c.from.ensures) at c.if-low-from.false) in
+    let fits : SFits w32 e = fits_between c.ranges.f here high (earlier_le e p below) in
+    filled_next c.loop-i.invariant _
+    (rw (to_z-of_z wide, to_z-of_z fits)
+    (below ∙ ap (λ (m : ℕ). e +ℤ pos m) c.product.ensures.0)) (omega arith)

@@ -1,10 +1,5 @@
-use Rattle.std.proofs.Common.{◌-◌}
-use Rattle.table.specs.Columns.{rules_of}
 use Rattle.jump.proofs.Jumping.{Rounding}
 use Rattle.jump.proofs.lockstep.rounds.Given as goal
 
 abbrev pub invariant-loop-i : goal.invariant-loop-i
-invariant-loop-i l = Rounding (rules_of l.xs l.ys l.zs l.ks l.count) l.f l.fn.near l.fn.far l.near l.far l.s l.passes l.i
-
-abbrev pub decreases-loop-i : goal.decreases-loop-i
-decreases-loop-i l = l.passes - l.i
+invariant-loop-i l = Rounding l.rules l.f l.fn.near l.fn.far l.near l.far l.steps l._i

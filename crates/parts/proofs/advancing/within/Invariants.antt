@@ -1,9 +1,7 @@
-use Rattle.std.proofs.Common.{length, ◌-◌}
-use Rattle.parts.proofs.Advances.{Fallen}
+use Rattle.std.proofs.Common.{ℕ, ◌<◌, get_or, pos, ◌+ℤ◌, ◌≤ℤ◌}
+use Rattle.maxatom.specs.Rule.{time_at}
 use Rattle.parts.proofs.advancing.within.Given as goal
 
+-- none of the first i jobs has fallen more than its drop
 abbrev pub invariant-loop-i : goal.invariant-loop-i
-invariant-loop-i l = Fallen l.from l.to l.drops l.i
-
-abbrev pub decreases-loop-i : goal.decreases-loop-i
-decreases-loop-i l = length l.from - l.i
+invariant-loop-i l = (job : ℕ) → job < l.i → time_at l.from job ≤ℤ (time_at l.to job +ℤ pos (get_or l.drops job 0))

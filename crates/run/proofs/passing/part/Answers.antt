@@ -1,79 +1,58 @@
-use Rattle.std.proofs.Common.{arith, ◌≡◌, ◌<◌, Bool, List, length, get_or, set, refl, sym, ap, ℤ, pos}
-use lib.ListN.{length-set}
-use lib.Seq.{get_or-set_same}
-use lib.Signed.{lt_z}
-use mir.Facts.{to_z-of_z}
+use Rattle.std.proofs.Common.{arith, rules, sym}
 use mir.Syntax.{w32}
-use mir.Val.{SFits, to_z, of_z}
-use Rattle.maxatom.specs.Rule.{time_at, left_side, satisfied}
-use Rattle.maxatom.specs.declared.Rule.{Rule}
-use Rattle.run.proofs.Runs.{few_fit, fits_here, lowerable_here}
-use Rattle.run.proofs.Parts.{parting_named, parting_kept, parting_low, parting_unnoted, parting_word, parting_fell}
+use mir.Val.{SFits}
+use Rattle.run.proofs.Runs.{few_fit, done_named, done_fits, done_lowerable, done_kept, done_low, done_fell}
+use Rattle.run.proofs.Settling.{settled_kept, settled_low}
+use Rattle.run.proofs.Parts.{falls}
 use Rattle.run.proofs.passing.part.Goals as goal
-
--- what the test says of the rule that was read
-tested : {r q : Rule} (times : List ℤ) {b v : Bool} → b ≡ satisfied q times → q ≡ r → b ≡ v → satisfied r times ≡ v
-tested times said same b_is = rw (same, b_is) at (sym said)
-
--- the time that a step left is the rule's left side, and the second test is whether that is below the floor
-falls : {r q : Rule} (times : List ℤ) {times' : List ℤ} {f g : ℤ} {v : Bool} → times' ≡ set times r.z (left_side r times) → q ≡ r → r.z < length times → SFits w32 (left_side r times) → SFits w32 f → f ≡ g →
-    lt_z (to_z w32 (of_z w32 (time_at times' q.z))) (to_z w32 (of_z w32 f)) ≡ v → lt_z (left_side r times) g ≡ v
-falls {r = r} times lowered same inside fits f_fits f_is test =
-    rw (lowered, same, get_or-set_same times r.z (left_side r times) (pos 0) inside, to_z-of_z fits, to_z-of_z f_fits, f_is) at test
-
-pub is_satisfied_32-requires-clause-named : goal.is_satisfied_32-requires-clause-named
-is_satisfied_32-requires-clause-named c =
-    rw c.rule_at-r.ensures (parting_named c.loop-i.invariant c.requires.from_le_to.1 c.loop-i-test.true)
-
-pub is_satisfied_32-requires-clause-sfits : goal.is_satisfied_32-requires-clause-sfits
-is_satisfied_32-requires-clause-sfits c = rw c.rule_at-r.ensures (fits_here c.loop-i.invariant.going (omega arith))
-
-pub loop-i-preserved-then-is_satisfied_32 : goal.loop-i-preserved-then-is_satisfied_32
-loop-i-preserved-then-is_satisfied_32 c =
-    parting_kept c.loop-i.invariant c.requires.from_le_to.1 c.loop-i-test.true
-    (tested _ c.is_satisfied_32.ensures c.rule_at-r.ensures c.if-is_satisfied_32.true)
-
-pub lower-off-requires-clause-named : goal.lower-off-requires-clause-named
-lower-off-requires-clause-named c =
-    rw c.rule_at-r.ensures (parting_named c.loop-i.invariant c.requires.from_le_to.1 c.loop-i-test.true)
+use Rattle.run.proofs.passing.part.Goals.{then-not-is_satisfied+else-times-z+in-Some, then-not-is_satisfied+else-times-z+in_default, else-not-is_satisfied}
 
 pub lower-off-requires-clause-lowerable : goal.lower-off-requires-clause-lowerable
-lower-off-requires-clause-lowerable c =
-    rw c.rule_at-r.ensures
-    (lowerable_here c.loop-i.invariant.going (omega arith) (tested _ c.is_satisfied_32.ensures c.rule_at-r.ensures c.if-is_satisfied_32.false))
+lower-off-requires-clause-lowerable c = done_lowerable c.loop-i.invariant.done (omega arith) (sym c.if-not-is_satisfied.ensures)
 
-pub overflow_add-s : goal.overflow_add-s
-overflow_add-s c = omega (arith, few_fit c.loop-i.invariant.going.running)
-
-pub slice_copy_out-t-32 : goal.slice_copy_out-t-32
-slice_copy_out-t-32 c =
-    let third = (parting_named c.loop-i.invariant c.requires.from_le_to.1 c.loop-i-test.true).third in
-    rw (c.lower-off.ensures.times_after, c.rule_at-r.ensures) (simp length-set third)
+pub overflow_add-p : goal.overflow_add-p
+overflow_add-p c = omega (arith, few_fit c.loop-i.invariant.done.running)
 
 pub returns-then-times-z-clause-parted : goal.returns-then-times-z-clause-parted
 returns-then-times-z-clause-parted c =
-    let inside = (parting_named c.loop-i.invariant c.requires.from_le_to.1 c.loop-i-test.true).third in
-    let violated = tested _ c.is_satisfied_32.ensures c.rule_at-r.ensures c.if-is_satisfied_32.false in
-    let lowered = rw c.rule_at-r.ensures at c.lower-off.ensures.times_after in
-    let low = falls _ lowered c.rule_at-r.ensures inside (fits_here c.loop-i.invariant.going (omega arith)) c.ranges.f c.requires.f_value c.if-times-z.true in
-    parting_fell c.loop-i.invariant c.requires.from_le_to.1 c.loop-i-test.true violated lowered low _ refl refl (ap (λ (r : Rule). r.z) c.rule_at-r.ensures)
+    let g = c.loop-i.invariant.done in
+    let inside = done_named g (omega arith) in
+    let f_fits : SFits w32 c.args.book.floor = search rules in
+    let low = falls _ _ c.lower-off.ensures.times_after inside.third (done_fits g (omega arith)) f_fits c.args.book.floor_is c.if-times-z.true in
+    done_fell g (omega arith) (sym c.if-not-is_satisfied.ensures) c.lower-off.ensures.times_after low
 
-pub bounds-words-z : goal.bounds-words-z
-bounds-words-z c = rw c.rule_at-r.ensures (parting_word c.loop-i.invariant c.requires.from_le_to.1 c.loop-i-test.true (c.requires.reads c.if-noted.true))
-
-pub loop-i-preserved-then-noted : goal.loop-i-preserved-then-noted
-loop-i-preserved-then-noted c =
-    let inside = (parting_named c.loop-i.invariant c.requires.from_le_to.1 c.loop-i-test.true).third in
-    let violated = tested _ c.is_satisfied_32.ensures c.rule_at-r.ensures c.if-is_satisfied_32.false in
-    let lowered = rw c.rule_at-r.ensures at c.lower-off.ensures.times_after in
-    let up = falls _ lowered c.rule_at-r.ensures inside (fits_here c.loop-i.invariant.going (omega arith)) c.ranges.f c.requires.f_value c.if-times-z.false in
-    parting_low c.loop-i.invariant c.requires.from_le_to.1 c.loop-i-test.true violated lowered up inside (c.requires.reads c.if-noted.true)
-    (ap (λ (r : Rule). get_or c.args.words.now r.z 0) c.rule_at-r.ensures)
+pub bounds-blocks-z : goal.bounds-blocks-z
+bounds-blocks-z c = (c.requires.reads _ c.in-Some.is).lowered c.loop-i.i (omega arith)
 
 pub loop-i-preserved : goal.loop-i-preserved
 loop-i-preserved c =
-    let inside = (parting_named c.loop-i.invariant c.requires.from_le_to.1 c.loop-i-test.true).third in
-    let violated = tested _ c.is_satisfied_32.ensures c.rule_at-r.ensures c.if-is_satisfied_32.false in
-    let lowered = rw c.rule_at-r.ensures at c.lower-off.ensures.times_after in
-    let up = falls _ lowered c.rule_at-r.ensures inside (fits_here c.loop-i.invariant.going (omega arith)) c.ranges.f c.requires.f_value c.if-times-z.false in
-    parting_unnoted c.loop-i.invariant c.requires.from_le_to.1 c.loop-i-test.true violated lowered up c.if-noted.false
+    let g = c.loop-i.invariant.done in
+    let inside = done_named g (omega arith) in
+    let fits = done_fits g (omega arith) in
+    let f_fits : SFits w32 c.args.book.floor = search rules in
+    elim c.if-not-is_satisfied.branch [
+      | then-not-is_satisfied+else-times-z+in-Some w ↦
+          let violated = sym w.if-not-is_satisfied.ensures in
+          let lowered = w.lower-off.ensures.times_after in
+          let up = falls _ _ lowered inside.third fits f_fits c.args.book.floor_is w.if-times-z.false in
+          rw (w.times-is, w.p-is)
+          (record {
+            done = done_low g (omega arith) violated lowered up;
+            settled = λ x e q. settled_low (c.loop-i.invariant.settled _ w.in-Some.is q) (c.requires.reads _ w.in-Some.is) violated inside.third lowered;
+          })
+      | then-not-is_satisfied+else-times-z+in_default w ↦
+          let lowered = w.lower-off.ensures.times_after in
+          let up = falls _ _ lowered inside.third fits f_fits c.args.book.floor_is w.if-times-z.false in
+          rw (w.times-is, w.p-is)
+          (record {
+            done = done_low g (omega arith) (sym w.if-not-is_satisfied.ensures) lowered up;
+            settled = λ x e q. absurd (w.in_default.not-Some x e);
+          })
+      | else-not-is_satisfied w ↦
+          let kept = sym w.if-not-is_satisfied.ensures in
+          rw (w.times-is, w.p-is)
+          (record {
+            done = done_kept g (omega arith) kept;
+            settled = λ x e q. settled_kept (c.loop-i.invariant.settled x e q) kept;
+          })
+    ]

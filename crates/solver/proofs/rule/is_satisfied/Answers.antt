@@ -3,12 +3,12 @@ use mir.Facts.{to_z-of_z}
 use mir.Syntax.{w32, w64}
 use mir.Val.{SFits}
 use Rattle.maxatom.specs.Rule.{time_at, satisfied}
-use Rattle.table.proofs.Signed.{widened}
 use Rattle.solver.proofs.rule.is_satisfied.Goals as goal
 
 pub returns : goal.returns
 unfolding satisfied
 returns c =
     let ft : SFits w32 (time_at c.args.times.now c.args.r.z) = search rules in
+    let fz : SFits w64 c.from.result = search rules in
     let fl : SFits w64 c.left_side.result = search rules in
-    rw (widened ft, to_z-of_z fl, c.left_side.ensures)
+    rw (to_z-of_z fz, to_z-of_z fl, c.left_side.ensures, rw (to_z-of_z ft) at c.from.ensures)

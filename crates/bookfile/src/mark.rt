@@ -1,0 +1,37 @@
+// The marks of a book file's records.
+ghost use Rattle.std.specs.Prelude.{◌≡◌};
+ghost use Rattle.bookfile.specs.Marks.{mark_of};
+
+use derivation::Fault;
+
+// What a record is: the book's first, a rule, or a rule whose offset is in hours.
+#[derive(Clone, Copy, PartialEq, Eq)]
+pub enum Mark {
+    Book,
+    Rule,
+    Hours,
+}
+
+// Each mark's two letters, the first of which is the low byte. They are put together by hand, since a constant's value calls no function.
+const BOOK: u16 = b'B' as u16 + 256 * b'K' as u16;
+
+const RULE: u16 = b'R' as u16 + 256 * b'U' as u16;
+
+const HOURS: u16 = b'H' as u16 + 256 * b'R' as u16;
+
+// The mark that is a record's first word.
+impl TryFrom<u16> for Mark {
+    type Error = Fault;
+
+    ghost try_from_gives = { λ word said. said ≡ mark_of word };
+
+    #[tactic(auto, unfolding(crate::specs::Marks::mark_of))]
+    fn try_from(word: u16) -> Result<Mark, Fault> {
+        match word {
+            BOOK => Ok(Mark::Book),
+            RULE => Ok(Mark::Rule),
+            HOURS => Ok(Mark::Hours),
+            _ => Err(Fault::UnknownMark),
+        }
+    }
+}

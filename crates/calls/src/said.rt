@@ -1,0 +1,124 @@
+// What the calls answer, in the words of the output.
+use planner::{Class, Refusal, Rule, Solved, Tally};
+use std::fmt;
+use std::fmt::Display;
+
+// The reply of a call: its answer, or the refusal.
+#[derive(Drop)]
+pub struct Said<T>(pub Result<T, Refusal>);
+
+impl<T: Display> Display for Said<T> {
+    fn fmt<W: fmt::Write>(&self, f: &mut fmt::Formatter<W>) -> fmt::Result {
+        match &self.0 {
+            Ok(answer) => write!(f, "{answer}"),
+            Err(refusal) => {
+                let number = u8::from(refusal.fault);
+                let place = refusal.place;
+                write!(f, "REFUSED {number} {place}")
+            }
+        }
+    }
+}
+
+#[derive(Drop)]
+pub struct Stepped;
+
+impl Display for Stepped {
+    fn fmt<W: fmt::Write>(&self, f: &mut fmt::Formatter<W>) -> fmt::Result {
+        write!(f, "STEPPED")
+    }
+}
+
+// The first violated rule, if any.
+#[derive(Drop)]
+pub struct Kept(pub Option<usize>);
+
+impl Display for Kept {
+    fn fmt<W: fmt::Write>(&self, f: &mut fmt::Formatter<W>) -> fmt::Result {
+        match self.0 {
+            None => write!(f, "KEPT"),
+            Some(i) => write!(f, "BROKEN {i}"),
+        }
+    }
+}
+
+#[derive(Drop)]
+pub struct Tight(pub bool);
+
+impl Display for Tight {
+    fn fmt<W: fmt::Write>(&self, f: &mut fmt::Formatter<W>) -> fmt::Result {
+        match self.0 {
+            true => write!(f, "TIGHT"),
+            false => write!(f, "SLACK"),
+        }
+    }
+}
+
+#[derive(Drop)]
+pub struct Run(pub Solved);
+
+impl Display for Run {
+    fn fmt<W: fmt::Write>(&self, f: &mut fmt::Formatter<W>) -> fmt::Result {
+        match self.0 {
+            Solved::Plan(steps) => write!(f, "PLAN {steps}"),
+            Solved::None(steps, job) => write!(f, "NONE {steps} {job}"),
+        }
+    }
+}
+
+#[derive(Drop)]
+pub struct Kind(pub Class);
+
+impl Display for Kind {
+    fn fmt<W: fmt::Write>(&self, f: &mut fmt::Formatter<W>) -> fmt::Result {
+        match self.0 {
+            Class::Tautology => write!(f, "IDLE"),
+            Class::Contradiction => write!(f, "IMPOSSIBLE"),
+            Class::Difference => write!(f, "ONE-ARMED"),
+            Class::Disjunctive => write!(f, "TWO-ARMED"),
+        }
+    }
+}
+
+#[derive(Drop)]
+pub struct Times<'a>(pub &'a [i32]);
+
+impl Display for Times<'_> {
+    fn fmt<W: fmt::Write>(&self, f: &mut fmt::Formatter<W>) -> fmt::Result {
+        write!(f, "TIMES")?;
+        for time in self.0 {
+            write!(f, " {time}")?;
+        }
+        Ok(())
+    }
+}
+
+#[derive(Drop)]
+pub struct Told(pub Tally);
+
+impl Display for Told {
+    fn fmt<W: fmt::Write>(&self, f: &mut fmt::Formatter<W>) -> fmt::Result {
+        let Tally { steps, minutes } = self.0;
+        write!(f, "TALLY {steps} {minutes}")
+    }
+}
+
+// A job count and a rule count.
+#[derive(Drop)]
+pub struct Book(pub usize, pub usize);
+
+impl Display for Book {
+    fn fmt<W: fmt::Write>(&self, f: &mut fmt::Formatter<W>) -> fmt::Result {
+        write!(f, "BOOK {} {}", self.0, self.1)
+    }
+}
+
+#[derive(Drop)]
+pub struct Numbers(pub Rule);
+
+impl Display for Numbers {
+    fn fmt<W: fmt::Write>(&self, f: &mut fmt::Formatter<W>) -> fmt::Result {
+        let Rule { x, y, z, k } = self.0;
+        write!(f, "{x} {y} {z} {k}")
+    }
+}

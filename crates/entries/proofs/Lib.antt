@@ -1,3 +1,0 @@
-pub mod Scanning
-pub mod Modelling
-pub mod Choosing

@@ -1,0 +1,51 @@
+// The hand step.
+ghost use Rattle.std.specs.Prelude.{◌≡◌};
+ghost use Rattle.derivation.specs.Step.{step_on, step_call};
+ghost use Rattle.derivation.specs.Replies.{outcome_reply, state_of};
+ghost use Rattle.planner.specs.Steps.{StepRoom};
+
+use crate::checks::check;
+use derivation::{Fault, Refusal, Tally};
+use maxatom::Rule;
+use solver::{below_floor, in_range, is_satisfied, lower, tally_fits};
+use table::floor;
+
+// Sets z's time to the rule's left side, and brings the tally up to date.
+#[tactic(auto, unfolding(derivation::specs::Step::step_on))]
+fn take_step(r: Rule, times: &mut [i32], tally: &mut Tally)
+    requires { StepRoom r times.old tally.old }
+    ensures { state_of times.new tally.new ≡ step_on r (state_of times.old tally.old) }
+{
+    tally.minutes += lower(r, times);
+    tally.steps += 1;
+}
+
+// Hand step: takes a violated rule and sets its third job's time to the left side; the tally is brought up to date.
+pub fn step(
+    n: usize,
+    rules: &[Rule],
+    times: &mut [i32],
+    tally: &mut Tally,
+    number: usize,
+) -> Result<(), Refusal>
+    ensures said { outcome_reply result ≡ (step_call n rules.now (state_of times.old tally.old) number).said }
+    ensures times_after { times.new ≡ (step_call n rules.now (state_of times.old tally.old) number).after.times }
+    ensures tally_after { tally.new ≡ (step_call n rules.now (state_of times.old tally.old) number).after.tally }
+{
+    let k = check(n, rules, times)?;
+    if !in_range(times, k) {
+        return Err(Fault::IllegalBoard.into());
+    }
+    if !tally_fits(times, *tally) {
+        return Err(Fault::TallyDiffers.into());
+    }
+    let r = *rules.get(number).ok_or(Fault::NoSuchRule)?;
+    if below_floor(times, floor(k)) {
+        return Err(Fault::ShowsNone.into());
+    }
+    if is_satisfied(r, times) {
+        return Err(Fault::Satisfied.into());
+    }
+    take_step(r, times, tally);
+    Ok(())
+}

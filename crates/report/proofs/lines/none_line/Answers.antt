@@ -1,8 +1,0 @@
-use Rattle.report.specs.Report.{none_line}
-use Rattle.report.proofs.Texts.{written_then}
-use Rattle.report.proofs.lines.none_line.Goals as goal
-
-pub returns-clause-written : goal.returns-clause-written
-unfolding none_line
-returns-clause-written c =
-    written_then c.put_word-p.ensures.written (written_then c.put_field-q.ensures.written c.put_word.ensures.written)

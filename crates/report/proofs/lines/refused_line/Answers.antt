@@ -1,9 +1,0 @@
-use Rattle.report.specs.Report.{refused_line}
-use Rattle.report.proofs.Texts.{written_then}
-use Rattle.report.proofs.lines.refused_line.Goals as goal
-
-pub returns-clause-written : goal.returns-clause-written
-unfolding refused_line
-returns-clause-written c =
-    written_then c.put_word-p.ensures.written
-    (written_then c.put_field-q.ensures.written (written_then c.put_field-s.ensures.written c.put_word.ensures.written))

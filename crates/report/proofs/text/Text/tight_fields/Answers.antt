@@ -1,0 +1,40 @@
+use Rattle.std.proofs.Common.{arith, ◌≡◌, ◌∷◌, ◌+◌, ◌∙◌, List, sym, ap, drop, add-one}
+use lib.ListN.{drop_of_length-le}
+use lib.Seq.{drop-cons}
+use Rattle.maxatom.specs.declared.Rule.{Rule}
+use Rattle.maxatom.proofs.Choose.{cond_yes, cond_no}
+use Rattle.derivation.specs.Step.{no_rule, rule_at}
+use Rattle.report.specs.Report.{tight_fields}
+use Rattle.report.specs.declared.text.Text.{Text}
+use Rattle.report.proofs.Texts.{listed_next, listed_same, listed_all}
+use Rattle.report.proofs.text.Text.tight_fields.Goals as goal
+use Rattle.report.proofs.text.Text.tight_fields.Goals.{then-is_equality, else-is_equality}
+
+pub loop-i-preserved : goal.loop-i-preserved
+unfolding tight_fields
+loop-i-preserved c =
+    let rules = c.args.rules.now in
+    let i = c.loop-i.i in
+    let v = c.loop-i.invariant in
+    let head : drop i rules ≡ rule_at rules i ∷ drop (i + 1) rules = let inside = c.loop-i-test.true in rw (add-one, drop-cons rules i no_rule) in
+    let left = ap (λ (rs : List Rule). tight_fields i rs c.args.times.now) head in
+    elim c.if-is_equality.branch [
+      | then-is_equality w ↦
+          let e = ap (λ (t : Text). t.end) w.self-is in
+          record {
+            near = omega arith;
+            listed = rw w.self-is (listed_next (left ∙ cond_yes _ _ (sym c.is_equality.ensures ∙ w.if-is_equality.true)) v.listed w.field.ensures.written);
+          }
+      | else-is_equality w ↦
+          let e = ap (λ (t : Text). t.end) w.self-is in
+          record {
+            near = omega arith;
+            listed = rw w.self-is (listed_same (left ∙ cond_no _ _ (sym c.is_equality.ensures ∙ w.if-is_equality.false)) v.listed);
+          }
+    ]
+
+pub returns-clause-written : goal.returns-clause-written
+unfolding tight_fields
+returns-clause-written c =
+    let i = c.loop-i.i in
+    listed_all (ap (λ (rs : List Rule). tight_fields i rs c.args.times.now) (drop_of_length-le c.args.rules.now c.loop-i-test.false)) c.loop-i.invariant.listed
