@@ -186,7 +186,7 @@ static int below(int m) {
 
 enum { FORWARD, REVERSE, INTERLEAVED };
 
-// The rule that comes i-th in a ring of so many.
+// The rule that comes i-th in a ring of `len` rules.
 static int in_order(int i, int len, int order) {
     return order == FORWARD ? i : order == REVERSE ? len - 1 - i : i < (len + 1) / 2 ? 2 * i : 2 * (i - (len + 1) / 2) + 1;
 }
@@ -358,7 +358,7 @@ static void wave(Book *b, int at, int len, int o) {
         rule(b, at + (i + len - 1) % len, at + (i + len - 1) % len, i ? 0 : -o, at + i);
 }
 
-// Two of them, of lengths 127 and 129; idle rules let the run go on for so many drops.
+// Two of them, of lengths 127 and 129; idle rules let the run go on for `drops` drops.
 static void waves(Book *b, int o, int drops, int unused) {
     (void)unused;
     b->n = 256;

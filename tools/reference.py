@@ -144,7 +144,7 @@ def latest(n, rules):
 
 
 def small_books(n, count):
-    """All books of that many rules with offsets -1 to 1, by hand steps in each order."""
+    """All books of `count` rules with offsets -1 to 1, by hand steps in each order."""
     rules = list(itertools.product(range(n), range(n), range(n), (-1, 0, 1)))
     books = list(itertools.product(rules, repeat=count))
     plans = [latest(n, b) for b in books]
@@ -355,7 +355,7 @@ def reading_line(data, places):
 
 
 def limit_line(n, rule, count, length):
-    """The calls on so many of one rule, with buffers of that length."""
+    """The calls on `count` times one rule, with buffers of a length."""
     rules = [rule] * count
     reply, times = solved(n, rules, [0] * length)
     out = "LIMIT %d %d %d %d %d %d %d" % ((n,) + rule + (count, length)) + solved_word(reply)

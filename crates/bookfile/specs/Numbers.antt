@@ -25,7 +25,7 @@ signed32 n = signed 2147483648 n
 unfoldable pub unsigned32 : ℤ → ℕ
 unsigned32 t = nat_abs (cond (lt_z t (pos 0)) (t +ℤ pos 4294967296) t)
 
--- the lowest bytes of a number, that many
+-- the lowest bytes of a number n, `count` of them
 unfoldable pub bytes_of : ℕ → ℕ → List ℕ
 bytes_of zero n = []
 bytes_of (suc count) n = n % 256 ∷ bytes_of count (n / 256)

@@ -152,56 +152,24 @@ fn held(rt: &impl Print, time: i32, steps: u64, minutes: u64, number: usize) -> 
 }
 
 fn main(rt: HostRuntime) -> io::Result<()> {
-    let b =
-        b"BK\x04\x00RU\x00\x00\x00\x00\x01\x00\xf6\xff\xff\xffRU\x03\x00\x03\x00\x02\x00\x00\x00\x00\x00RU\x01\x00\x02\x00\x03\x00\xff\xff\xff\xffRU\x01\x00\x00\x00\x03\x00\x19\x00\x00\x00";
-    let l =
-        b"BK\x02\x00RU\x00\x00\x01\x00\x00\x00\xff\xff\xff\xffRU\x00\x00\x00\x00\x01\x00\xfd\xff\xff\xff";
-    example(&rt, "A", b"BK\x01\x00")?;
-    example(&rt, "B", b)?;
-    example(
-        &rt,
-        "C",
-        b"BK\x04\x00RU\x00\x00\x00\x00\x01\x00\xf6\xff\xff\xffRU\x03\x00\x03\x00\x02\x00\x00\x00\x00\x00RU\x01\x00\x02\x00\x03\x00\xff\xff\xff\xffRU\x01\x00\x00\x00\x03\x00\x19\x00\x00\x00RU\x01\x00\x02\x00\x00\x00\x09\x00\x00\x00",
-    )?;
-    example(
-        &rt,
-        "D",
-        b"BK\x01\x00RU\x00\x00\x00\x00\x00\x00\xff\xff\xff\xff",
-    )?;
-    example(
-        &rt,
-        "E",
-        b"BK\x01\x00RU\x00\x00\x00\x00\x00\x00\x00\x00\x00\x00",
-    )?;
-    example(
-        &rt,
-        "F",
-        b"BK\x02\x00RU\x00\x00\x01\x00\x00\x00\xff\xff\xff\xff",
-    )?;
-    example(
-        &rt,
-        "G",
-        b"BK\x02\x00RU\x00\x00\x00\x00\x01\x00\xfb\xff\xff\xff",
-    )?;
-    example(
-        &rt,
-        "H",
-        b"BK\x02\x00RU\x00\x00\x00\x00\x01\x00\x05\x00\x00\x00",
-    )?;
-    example(
-        &rt,
-        "I",
-        b"BK\x02\x00RU\x00\x00\x00\x00\x01\x00\xff\xff\xff\xffRU\x01\x00\x01\x00\x00\x00\x00\x00\x00\x00",
-    )?;
-    example(
-        &rt,
-        "J",
-        b"BK\x02\x00RU\x00\x00\x00\x00\x01\x00\xff\xff\xff\xffRU\x01\x00\x01\x00\x00\x00\x01\x00\x00\x00",
-    )?;
-    example(&rt, "L", l)?;
+    for (name, file) in [
+        ("A", example_books::A),
+        ("B", example_books::B),
+        ("C", example_books::C),
+        ("D", example_books::D),
+        ("E", example_books::E),
+        ("F", example_books::F),
+        ("G", example_books::G),
+        ("H", example_books::H),
+        ("I", example_books::I),
+        ("J", example_books::J),
+        ("L", example_books::L),
+    ] {
+        example(&rt, name, file)?;
+    }
     step_of_l(&rt)?;
-    reading(&rt, "B", b, 3)?;
-    reading(&rt, "B", b, 4)?;
+    reading(&rt, "B", example_books::B, 3)?;
+    reading(&rt, "B", example_books::B, 4)?;
     limit(&rt, 0, rule(0, 0, 0, 0), 0, 0)?;
     limit(&rt, 1, rule(0, 0, 0, 0), 0, 1)?;
     limit(&rt, 256, rule(0, 0, 0, 0), 0, 256)?;

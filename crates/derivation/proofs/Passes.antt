@@ -194,7 +194,7 @@ module _ {jobs : ℕ} {rules : List Rule} (a : Accepted jobs rules) where
             fell_at = ih.fell_at;
           }
 
--- what so many passes are
+-- what n passes are
 pub record PassesAre (jobs : ℕ) (rules : List Rule) (state : State) (n : ℕ) (w : Run) : Type 0 where
   pub times_is : (run_through jobs rules state (rounds n (length rules))).times ≡ w.times
   pub steps_is : (run_through jobs rules state (rounds n (length rules))).tally.steps ≡ w.steps

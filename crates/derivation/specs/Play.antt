@@ -43,12 +43,12 @@ unfoldable pub sum_minutes : List Rule → List Entry → ℕ
 sum_minutes rules [] = 0
 sum_minutes rules (e ∷ log) = cond (stepped e) (took_off rules e) 0 + sum_minutes rules log
 
--- the numbers from `at` on, that many
+-- `count` numbers, from `at` on
 unfoldable pub up_from : ℕ → ℕ → List ℕ
 up_from at zero = []
 up_from at (suc count) = at ∷ up_from (at + 1) count
 
--- the rule numbers from 0 upward, and again: the calls of so many passes
+-- the rule numbers from 0 upward, and again: the calls of `passes` passes over `count` rules
 unfoldable pub rounds : ℕ → ℕ → List ℕ
 rounds zero count = []
 rounds (suc passes) count = up_from 0 count ++ rounds passes count

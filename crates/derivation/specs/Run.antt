@@ -32,7 +32,7 @@ fallen planned = false
 fallen (fell job) = true
 fallen unfinished = false
 
--- at most so many passes: the run ends after a pass without a step, or at once where a time falls
+-- at most n passes: the run ends after a pass without a step, or at once where a time falls
 unfoldable pub passes : ℕ → ℤ → List Rule → List ℤ → ℕ → Run
 passes zero f rules times steps = record { times = times; steps = steps; end = unfinished }
 passes (suc n) f rules times steps =

@@ -26,7 +26,7 @@ pub record Due (cs : List Clause) (floor : ℤ) (times : List ℤ) (c : Clause) 
 abbrev pub taken : List ℤ → Clause → ℕ
 taken times c = minutes_off (time_at times c.target) (left_of (time_at times) c)
 
--- times reached from `latest` by steps, that many, which took off that many minutes
+-- times reached from `latest` by steps; the numbers are those of the steps and of the minutes that they took off
 pub data Derivation (cs : List Clause) (floor : ℤ) (latest : List ℤ) : List ℤ → ℕ → ℕ → Type 0 where
   start : Derivation cs floor latest latest 0 0
   step : {times : List ℤ} {steps minutes : ℕ} (c : Clause) → Derivation cs floor latest times steps minutes → Due cs floor times c →

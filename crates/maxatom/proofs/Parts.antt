@@ -203,7 +203,7 @@ module _ {P Q : ℕ → Type 0} (disjoint : (job : ℕ) → P job → Q job → 
           off = t.off;
         }
 
-    -- passes over the one part and as many over the other are so many over both
+    -- passes over the one part and as many over the other are as many over both
     pub merged : ((job : ℕ) → Dec (P job)) → {cs l r : List Clause} → Merged P Q cs l r → {S : ℕ → ℕ → ℤ → Type 0} {least least' : ℕ} {a b d : List ℤ} {p s k : ℕ} →
         Traced floor l least P S a b p s → Traced floor r least' Q S b d p k → Traced floor cs (least + least') (λ job. P job ⊎ Q job) S a d p (s + k)
     merged dec {cs = cs} m {S = S} {least = least} {least' = least'} {a = a} {b = b} {d = d} {p = p} {s = s} {k = k} x y =

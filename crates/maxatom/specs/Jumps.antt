@@ -17,7 +17,7 @@ pub record SameKeeper (near far : List ℤ) (c : Clause) : Type 0 where
   pub near_kept : time_at near c.target ≤ℤ arm_time (time_at near) arm
   pub far_kept : time_at far c.target ≤ℤ arm_time (time_at far) arm
 
--- a walk: each clause is kept, or stepped on without a fall below the floor; so many steps
+-- a walk: each clause is kept, or stepped on without a fall below the floor; the number is that of its steps
 pub data Walk (floor : ℤ) : List Clause → List ℤ → List ℤ → ℕ → Type 0 where
   done : {b : List ℤ} → Walk floor [] b b 0
   keep : {c : Clause} {cs : List Clause} {b b' : List ℤ} {s : ℕ} → Keeps (time_at b) c → Walk floor cs b b' s → Walk floor (c ∷ cs) b b' s
@@ -34,23 +34,23 @@ pub data Lockstep (floor : ℤ) : List Clause → List ℤ → List ℤ → List
       floor ≤ℤ left_of (time_at n) c → floor ≤ℤ left_of (time_at f) c →
       Lockstep floor cs (stepped n c) (stepped f c) n' f' s → Lockstep floor (c ∷ cs) n f n' f' (s + 1)
 
--- so many passes in lockstep, each with a step or more; so many steps
+-- passes in lockstep, each with a step or more; the numbers are those of the passes and of their steps
 pub data Rounds (floor : ℤ) (cs : List Clause) : List ℤ → List ℤ → List ℤ → List ℤ → ℕ → ℕ → Type 0 where
   start : {n f : List ℤ} → Rounds floor cs n f n f 0 0
   round : {n f n' f' n'' f'' : List ℤ} {p s k : ℕ} → Rounds floor cs n f n' f' p s → Lockstep floor cs n' f' n'' f'' k → 1 ≤ k → Rounds floor cs n f n'' f'' (p + 1) (s + k)
 
--- so many passes without an end, each with so many steps or more; so many steps
+-- passes without an end, each with `least` steps or more; the numbers are those of the passes and of their steps
 pub data Passing (floor : ℤ) (cs : List Clause) (least : ℕ) : List ℤ → List ℤ → ℕ → ℕ → Type 0 where
   start : {b : List ℤ} → Passing floor cs least b b 0 0
   round : {b b' b'' : List ℤ} {p s k : ℕ} → Passing floor cs least b b' p s → Walk floor cs b' b'' k → least ≤ k → Passing floor cs least b b'' (p + 1) (s + k)
 
--- such passes, with something said of each job of a part after so many of them
+-- such passes, with S said of each job of the part P after each number of them
 pub data Traced (floor : ℤ) (cs : List Clause) (least : ℕ) (P : ℕ → Type 0) (S : ℕ → ℕ → ℤ → Type 0) : List ℤ → List ℤ → ℕ → ℕ → Type 0 where
   start : {b : List ℤ} → ((job : ℕ) → P job → S job 0 (time_at b job)) → Traced floor cs least P S b b 0 0
   round : {b b' b'' : List ℤ} {p s k : ℕ} → Traced floor cs least P S b b' p s → Walk floor cs b' b'' k → least ≤ k →
       ((job : ℕ) → P job → S job (p + 1) (time_at b'' job)) → Traced floor cs least P S b b'' (p + 1) (s + k)
 
--- a time v after i passes, from the time b on, of which each p take off so many minutes
+-- a time v after i passes, from the time b on, of which each p take off `minutes` minutes
 pub record Along (p minutes : ℕ) (b : ℤ) (i : ℕ) (v : ℤ) : Type 0 where
   pub rounds : ℕ
   pub begun : rounds * p ≤ i

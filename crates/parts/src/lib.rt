@@ -142,7 +142,7 @@ fn apart(
     }
 }
 
-// The same for rules of which the tautologies are left out first, since no test is to fail for them.
+// Finds the parts of the rules that are no tautologies, since no test is to fail for one that is, and advances them: the steps taken.
 #[tactic(auto, using(crate::proofs::Leftovers::proper_jobs))]
 fn apart_proper(
     rules: &[Rule],

@@ -4,7 +4,7 @@ use Rattle.maxatom.specs.Rule.{time_at}
 use Rattle.maxatom.proofs.Integers.{le_read, le_make, lt_false, add_parts}
 use Rattle.parts.proofs.advancing.within.Goals as goal
 
--- one time is not above another with so many minutes
+-- a time that lies d minutes above one is not above another with d minutes added, where the one is not above the other
 not_above : (from to e : ℤ) (d : ℕ) → from ≡ e +ℤ pos d → e ≤ℤ to → from ≤ℤ (to +ℤ pos d)
 not_above from to e d is h = rw is (le_make (omega (arith, le_read h, add_parts e (pos d), add_parts to (pos d))))
 
