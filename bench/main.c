@@ -456,9 +456,9 @@ static int by_size(const void *a, const void *b) {
     return (p > q) - (p < q);
 }
 
-// Seconds: the most for straight passes, the most for the run; a batch of short calls, and a round over all variants of a book.
-enum { LIMIT = 2, PATIENCE = 20 };
-static const double BATCH = 0.01, ROUND = 0.2;
+// Seconds: the most for straight passes, the most for the run, the most for both over all variants of a book; and a batch of short calls.
+enum { LIMIT = 2, PATIENCE = 20, ROUND = 20 };
+static const double BATCH = 0.01;
 enum { BATCHES = 15, VARIANTS = 1024 };
 
 static double median(double *t, int count) {
@@ -470,7 +470,7 @@ static double median(double *t, int count) {
 typedef void Call(int variant);
 
 // Seconds of a fast and of a slow call: the median of batches that the two make by turns, each over all variants. `once` is about what
-// both take together, or 0; where `both` is 0 there is no slow call.
+// both take together on a variant, or 0; where `both` is 0 there is no slow call.
 __attribute__((always_inline)) static inline void by_turns(Call *fast, Call *slow, int both, int variants, double once, double *fast_time,
                                                            double *slow_time) {
     // short calls are made in batches, and their first calls were made with cold caches
@@ -485,7 +485,8 @@ __attribute__((always_inline)) static inline void by_turns(Call *fast, Call *slo
             }
         once = (now() - t) / rounds / variants;
     }
-    int rounds = 1 + BATCH / once / variants, batches = once < 0.5 ? BATCHES : once < 5 ? 3 : 1;
+    double round = once * variants;
+    int rounds = 1 + BATCH / round, batches = round < 0.5 ? BATCHES : round < 5 ? 3 : 1;
     double fasts[BATCHES], slows[BATCHES];
     for (int i = 0; i < batches; i++) {
         double t = now();
@@ -558,7 +559,7 @@ static int measure(const Family *f) {
         Book *b = make(f, f->sister, 0);
         patient_solve(b, &fast);
         if (!straight(b, &slow) || !same(b, &fast, &slow)) {
-            printf("| %s | | | | | | DIFFERS | |\n", f->name);
+            printf("| %s | | | | | | | DIFFERS | |\n", f->name);
             return 1;
         }
     }
@@ -581,64 +582,81 @@ static int measure(const Family *f) {
         printf("%" PRIu64, passes);
     printf(" | %" PRIu64 " | ", steps);
 
-    // of a random book that is answered soon, variants by turns: else the processor learns the one book's steps by heart
+    // of a random book that straight passes finish, variants by turns: else the processor learns the one book's steps by heart
     int variants = 1;
     double start = now();
-    while (f->seed && passes && variants < VARIANTS && now() - start + once < ROUND) {
-        books[variants] = make(f, f->offset, variants);
-        patient_solve(books[variants], &fast);
-        if (straight(books[variants], &slow)) {
-            differs |= !same(books[variants], &fast, &slow);
-            variants++;
-        }
+    for (int v = 1; f->seed && passes && v < VARIANTS && now() - start < ROUND; v++) {
+        b = make(f, f->offset, v);
+        patient_solve(b, &fast);
+        if (straight(b, &slow)) {
+            differs |= !same(b, &fast, &slow);
+            books[variants++] = b;
+        } else
+            free(b);
     }
+    if (1 < variants)
+        once = (now() - start) / variants;
 
     double fast_time, slow_time;
     by_turns(fast_call, slow_call, passes != 0, variants, once, &fast_time, &slow_time);
     if (!passes)
         slow_time = per_step * steps;
 
-    printf("%s%s | %s |%s\n", passes ? "" : "~", number(slow_time / fast_time), number(fast_time * 1e3), differs ? " DIFFERS" : "");
+    printf("%d | %s%s | %s |%s\n", variants, passes ? "" : "~", number(slow_time / fast_time), number(fast_time * 1e3),
+           differs ? " DIFFERS" : "");
     return differs;
 }
 
 // ---- survey ----
 
-enum { SURVEYED = 100 };
+enum { SURVEYED = 100, TURNS = 5 };
 
-// Seconds of a call: of a short one the median of five batches, with warm caches.
-static double timed(const Book *b, Out *o, int by_straight, uint64_t *passes) {
-    double t = now();
-    *passes = by_straight ? straight(b, o) : (patient_solve(b, o), 1);
-    t = now() - t;
-    if (0.001 < t)
-        return t;
-    double batch[5];
-    for (int j = 0; j < 5; j++) {
-        t = now();
-        for (int i = 0; i < 20; i++)
-            by_straight ? (void)straight(b, o) : solve(b, o);
-        batch[j] = (now() - t) / 20;
+// The least seconds that a call on each book took, and its answer: the library's first, then straight passes'; and whether these finished.
+static double took[2][SURVEYED];
+static Out answers[2][SURVEYED];
+static int is_finished[SURVEYED];
+
+// Makes a call on each book, and after the first turn only on those on which it takes less than a millisecond. `clock` is what the clock
+// itself takes.
+static void take_turn(int turn, int by_straight, double clock) {
+    for (int i = 0; i < SURVEYED; i++) {
+        double *least = &took[by_straight][i];
+        if (turn && 0.001 < *least)
+            continue;
+        alarm(PATIENCE);
+        double t = now();
+        if (by_straight)
+            is_finished[i] = straight(books[i], &answers[1][i]) != 0;
+        else
+            solve(books[i], &answers[0][i]);
+        t = now() - t - clock;
+        alarm(0);
+        if (!turn || t < *least)
+            *least = t;
     }
-    return median(batch, 5);
 }
 
-// Other books of a random family: how many straight passes finish in a tenth of a second, the least ratio and how many are below 0.9 among
-// these, and the longest solve of all. 0 where the answers agree.
+// Other books of a random family, by turns, so that the processor learns none by heart: how many straight passes finish in a tenth of a
+// second, the least ratio and how many are below 0.9 among these, and the longest solve of all. 0 where the answers agree.
 static int survey(const Family *f) {
     int finished = 0, low = 0, differs = 0;
-    double least = 1e300, longest = 0;
+    double least = 1e300, longest = 0, clock = now();
+    for (int i = 0; i < 1000; i++)
+        now();
+    clock = (now() - clock) / 1001;
     limit = 0.1;
-    for (int i = 1; i <= SURVEYED; i++) {
-        uint64_t passes, one;
-        Book *b = make(f, f->offset, i);
-        double t = timed(b, &fast, 0, &one), u = timed(b, &slow, 1, &passes);
+    for (int i = 0; i < SURVEYED; i++)
+        books[i] = make(f, f->offset, i + 1);
+    for (int turn = 0; turn < TURNS; turn++)
+        take_turn(turn, 0, clock), take_turn(turn, 1, clock);
+    for (int i = 0; i < SURVEYED; i++) {
+        double t = took[0][i], u = took[1][i];
         if (longest < t)
             longest = t;
-        if (!passes)
+        if (!is_finished[i])
             continue;
         finished++;
-        differs |= !same(b, &fast, &slow);
+        differs |= !same(books[i], &answers[0][i], &answers[1][i]);
         low += u < 0.9 * t;
         if (u / t < least)
             least = u / t;
@@ -918,7 +936,8 @@ int main(int argc, char **argv) {
         argc--, argv++;
         printf("| Book | Books | Finished by straight passes | Least straight / solve | Below 0.9 | Longest solve, ms |\n|---|---|---|---|---|---|\n");
     } else if (!only_calls)
-        printf("| Book | Jobs | Rules | Answer | Passes | Steps | Straight / solve | solve, ms |\n|---|---|---|---|---|---|---|---|\n");
+        printf("| Book | Jobs | Rules | Answer | Passes | Steps | Variants | Straight / solve | solve, ms |\n"
+               "|---|---|---|---|---|---|---|---|---|\n");
     for (size_t i = 0; !only_calls && i < sizeof families / sizeof *families; i++) {
         const Family *f = &families[i];
         if ((1 < argc && !strstr(f->name, argv[1])) || (others && !f->seed))
@@ -926,7 +945,7 @@ int main(int argc, char **argv) {
         if (is_child(&status))
             exit(others ? survey(f) : measure(f));
         if (is_late(status))
-            printf("| %s | | | | | | no answer in %d s | |\n", f->name, PATIENCE);
+            printf("| %s | | | | | | | no answer in %d s | |\n", f->name, PATIENCE);
         else if (status)
             differs = 1;
     }

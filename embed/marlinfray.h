@@ -19,7 +19,7 @@
  *   State      Nothing is allocated, there is no state between calls, and no file, clock or setting is looked at. Of the C library
  *              memcpy, memset and their like are asked for, and nothing else. Every function is reentrant: threads and signal handlers
  *              may call at once, while none writes what another call has been lent.
- *   Stack      marlinfray_solve takes 135,992 bytes of stack, every other call fewer than 256.
+ *   Stack      marlinfray_solve takes 122,728 bytes of stack, every other call fewer than 256.
  */
 #ifndef MARLINFRAY_H
 #define MARLINFRAY_H

@@ -13,7 +13,7 @@ use mir.Syntax.{w32}
 use mir.Val.{SFits}
 use Rattle.maxatom.specs.Book.{Each}
 use Rattle.maxatom.proofs.Integers.{up, dn, abs_parts, eq_make, le_read, lt_true, lt_false, one_part}
-use Rattle.table.proofs.Signed.{fits_read}
+use Rattle.maxatom.proofs.Signed.{fits_read}
 use Rattle.bookfile.specs.Numbers.{bytes_of, unsigned32}
 use Rattle.bookfile.specs.Writing.{plan_record, plan_from}
 use Rattle.bookfile.specs.Theorems.{PlanDetermines}

@@ -3,7 +3,7 @@ use mathlib.Core.Path.{◌≡◌, refl, sym, subst, ◌∙◌}
 use mathlib.Core.Logic.{◌↔◌, ◌⊎◌, inl, inr, ⊎_elim}
 use mathlib.Core.Bool.{Bool, true, false, cond}
 use mathlib.Core.List.{List, [], ◌∷◌}
-use Prim.Native.Nat.{ℕ, zero, suc, ◌+◌, ◌<◌}
+use Prim.Native.Nat.{ℕ, suc, ◌+◌, ◌<◌}
 use native.Mathlib.Omega.{arith}
 use lib.ListN.{length, replicate, length-set}
 use lib.Seq.{get_or-set_same, get_or-set_other}
@@ -15,7 +15,7 @@ use Rattle.maxatom.specs.declared.Rule.{Rule}
 use Rattle.maxatom.specs.Clauses.{clause_of}
 use Rattle.maxatom.proofs.Choose.{clash}
 use Rattle.maxatom.proofs.Integers.{le_false, le_make, by_test_not}
-use Rattle.maxatom.proofs.Lists.{each_map, each_time, time_each}
+use Rattle.maxatom.proofs.Lists.{each_map, each_time, time_each, each_place}
 use Rattle.maxatom.proofs.Clauses.{Below}
 use Rattle.maxatom.proofs.Derivations.{start, step, longest, longest_high, stays_high, full, lemma_7}
 use Rattle.maxatom.proofs.Rules.{left_same, in_clauses, keeps_all, kept_all, room_zero, zero_time}
@@ -27,9 +27,7 @@ use Rattle.derivation.specs.Demands.{Due, Lowered, Unchanged, WithPlan, WithNone
 use Rattle.derivation.proofs.Reached.{Reached, set_of, high_test, test_high, floor_low, size_is, not_after, View, no_rule_lem, too_low, kept, steps, view}
 
 pub each_at : (P : Rule → Type 0) (rules : List Rule) (number : ℕ) → number < length rules → Each P rules → P (rule_at rules number)
-each_at P [] number h e = absurd (omega arith)
-each_at P (r ∷ rules) zero h e = e.0
-each_at P (r ∷ rules) (suc number) h e = each_at P rules number (omega arith) e.1
+each_at P rules number h e = each_place P rules number no_rule h e
 
 -- what is shown of one call of the list
 pub record Shown (jobs : ℕ) (rules : List Rule) (e : Entry) : Type 0 where

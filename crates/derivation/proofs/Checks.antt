@@ -10,6 +10,7 @@ use lib.ListN.{length}
 use lib.IntN.{ℤ, pos}
 use lib.Signed.{lt_z}
 use borrow.Author.Tests.{leb-false, ltb-false, le-ltb, lt-leb, eqb-true, eq-eqb, not-false}
+use Rattle.maxatom.proofs.Lists.{each_join}
 use Rattle.maxatom.specs.Book.{Each, InBook, Accepted, minus}
 use Rattle.maxatom.specs.declared.Rule.{Rule}
 use Rattle.maxatom.proofs.Choose.{cond_yes, cond_no, clash}
@@ -73,10 +74,6 @@ pub table_passes : {jobs : ℕ} {rules : List Rule} → Accepted jobs rules → 
 unfolding table_checks
 table_passes {jobs = jobs} {rules = rules} a =
     (rw (le-ltb jobs 1 a.some, le-ltb 256 jobs a.few), (le-ltb 1024 (length rules) a.short, rules_pass jobs 0 rules a.rules_in))
-
-pub each_join : {A : Type 0} (P : A → Type 0) (l m : List A) → Each P l → Each P m → Each P (l ++ m)
-each_join P [] m p q = q
-each_join P (a ∷ l) m p q = (p.0, each_join P l m p.1 q)
 
 pub each_left : {A : Type 0} (P : A → Type 0) (l m : List A) → Each P (l ++ m) → Each P l × Each P m
 each_left P [] m p = (tt, p)

@@ -13,14 +13,17 @@ use borrow.Author.Tests.{eqb-true, eqb-false}
 use Rattle.maxatom.specs.Rule.{time_at, left_side, satisfied}
 use Rattle.maxatom.specs.Book.{Accepted, InBook, AllSatisfied, floor}
 use Rattle.maxatom.specs.declared.Rule.{Rule}
+use Rattle.maxatom.specs.Clauses.{Clause, clause_of, clauses_of}
+use Rattle.maxatom.specs.Clauses as Test
+use Rattle.maxatom.specs.Runs.{End, planned, fell, unfinished, Run, pass, fallen, passes}
 use Rattle.maxatom.proofs.Choose.{clash}
 use Rattle.maxatom.proofs.Integers.{le_read, lt_read, lt_true, lt_false, by_test_not}
 use Rattle.maxatom.proofs.Lists.{set_time}
 use Rattle.maxatom.proofs.Derivations.{longest_high}
-use Rattle.maxatom.proofs.Rules.{room_zero}
+use Rattle.maxatom.proofs.Rules.{left_same, room_zero}
 use Rattle.derivation.specs.Step.{State, rule_at, below_floor, step_on, Called, step_call}
 use Rattle.derivation.specs.Play.{play, end_state, up_from, rounds}
-use Rattle.derivation.specs.Run.{End, planned, fell, unfinished, Run, pass, fallen, passes, pass_bound}
+use Rattle.derivation.specs.Run.{pass_bound}
 use Rattle.derivation.proofs.Reached.{Reached, set_of, high_test, test_high, floor_low, View, no_rule_lem, too_low, kept, steps, view}
 use Rattle.derivation.proofs.AnyOrder.{each_at, reached_step, allowed, played}
 
@@ -35,9 +38,6 @@ run_append jobs rules state [] ys = refl
 run_append jobs rules state (x ∷ xs) ys = run_append jobs rules (step_call jobs rules state x).after xs ys
 
 module _ {jobs : ℕ} {rules : List Rule} (a : Accepted jobs rules) where
-  f : ℤ
-  f = floor rules
-
   pub after_step : {state : State} {number : ℕ} {called : Called} → View a state number called → number < length rules →
       below_floor (floor rules) state.times ≡ false → satisfied (rule_at rules number) state.times ≡ false →
       called.after ≡ step_on (rule_at rules number) state
@@ -102,6 +102,15 @@ drop_at [] (suc i) r rest e = absurd (no_head e)
 drop_at (x ∷ rules) zero r rest e = let q = head_of e in (omega arith, q.0, q.1)
 drop_at (x ∷ rules) (suc i) r rest e = let q = drop_at rules i r rest e in (omega (arith, q.0), q.1, q.2)
 
+-- a pass over a rule's clause and more, in the words of rules
+pub pass_rule : (low : ℤ) (r : Rule) (cs : List Clause) (times : List ℤ) (count : ℕ) →
+    let lowered = set times r.z (left_side r times) in
+    pass low (clause_of r ∷ cs) times count
+    ≡ cond (satisfied r times) (pass low cs times count)
+    (cond (lt_z (left_side r times) low) (record { times = lowered; steps = count + 1; end = fell r.z }) (pass low cs lowered (count + 1)))
+unfolding pass Test.kept satisfied
+pass_rule low r cs times count = rw (left_same r times) refl
+
 -- what a pass over the last rules is, from a state that shows no fall
 pub record PassIs (jobs : ℕ) (rules rest : List Rule) (state : State) (calls : List ℕ) (w : Run) : Type 0 where
   pub times_is : (run_through jobs rules state calls).times ≡ w.times
@@ -120,7 +129,7 @@ not_fell e = absurd (let z : ◌≡◌ {A = ℕ} 0 1 = cc in omega arith)
 
 module _ {jobs : ℕ} {rules : List Rule} (a : Accepted jobs rules) where
   pub pass_is : (rest : List Rule) (i : ℕ) (state : State) → Reached jobs rules state → below_floor (floor rules) state.times ≡ false → drop i rules ≡ rest →
-      PassIs jobs rules rest state (up_from i (length rest)) (pass (floor rules) rest state.times state.tally.steps)
+      PassIs jobs rules rest state (up_from i (length rest)) (pass (floor rules) (clauses_of rest) state.times state.tally.steps)
   unfolding pass up_from play end_state fallen step_on
   pass_is [] i state d above e =
       record {
@@ -134,8 +143,9 @@ module _ {jobs : ℕ} {rules : List Rule} (a : Accepted jobs rules) where
       }
   pass_is (r ∷ rest) i state d above e =
       let q = drop_at rules i r rest e in
-      go (satisfied r state.times) (lt_z (left_side r state.times) (floor rules)) refl refl q.0 q.1
-      (λ s d' above'. pass_is rest (i + 1) s d' above' (ap (λ (n : ℕ). drop n rules) (add-one i) ∙ q.2))
+      subst (PassIs jobs rules (r ∷ rest) state (up_from i (length (r ∷ rest)))) (sym (pass_rule (floor rules) r (clauses_of rest) state.times state.tally.steps))
+      (go (satisfied r state.times) (lt_z (left_side r state.times) (floor rules)) refl refl q.0 q.1
+      (λ s d' above'. pass_is rest (i + 1) s d' above' (ap (λ (n : ℕ). drop n rules) (add-one i) ∙ q.2)))
     where
       next : List ℕ
       next = up_from (i + 1) (length rest)
@@ -147,9 +157,9 @@ module _ {jobs : ℕ} {rules : List Rule} (a : Accepted jobs rules) where
       fallen_run = record { times = lowered; steps = state.tally.steps + 1; end = fell r.z }
 
       go : (b c : Bool) → satisfied r state.times ≡ b → lt_z (left_side r state.times) (floor rules) ≡ c → i < length rules → rule_at rules i ≡ r →
-          ((s : State) → Reached jobs rules s → below_floor (floor rules) s.times ≡ false → PassIs jobs rules rest s next (pass (floor rules) rest s.times s.tally.steps)) →
+          ((s : State) → Reached jobs rules s → below_floor (floor rules) s.times ≡ false → PassIs jobs rules rest s next (pass (floor rules) (clauses_of rest) s.times s.tally.steps)) →
           PassIs jobs rules (r ∷ rest) state (i ∷ next)
-          (cond b (pass (floor rules) rest state.times state.tally.steps) (cond c fallen_run (pass (floor rules) rest lowered (state.tally.steps + 1))))
+          (cond b (pass (floor rules) (clauses_of rest) state.times state.tally.steps) (cond c fallen_run (pass (floor rules) (clauses_of rest) lowered (state.tally.steps + 1))))
       go true c p q h at on =
           let ih = on state d above in
           let same = after_stay a (view a state i d) (λ _ _ violated. clash (rw at p) violated) in
@@ -215,7 +225,7 @@ fallen_end unfinished q = clash q refl
 
 module _ {jobs : ℕ} {rules : List Rule} (a : Accepted jobs rules) where
   pub passes_are : (n : ℕ) (state : State) → Reached jobs rules state → below_floor (floor rules) state.times ≡ false →
-      PassesAre jobs rules state n (passes n (floor rules) rules state.times state.tally.steps)
+      PassesAre jobs rules state n (passes n (floor rules) (clauses_of rules) state.times state.tally.steps)
   unfolding passes rounds play end_state
   passes_are zero state d above =
       record {
@@ -227,8 +237,8 @@ module _ {jobs : ℕ} {rules : List Rule} (a : Accepted jobs rules) where
       }
   passes_are (suc n) state d above =
       let p = pass_is a rules 0 state d above refl in
-      go (fallen (pass (floor rules) rules state.times state.tally.steps).end)
-      (eqb (pass (floor rules) rules state.times state.tally.steps).steps state.tally.steps) refl refl p
+      go (fallen (pass (floor rules) (clauses_of rules) state.times state.tally.steps).end)
+      (eqb (pass (floor rules) (clauses_of rules) state.times state.tally.steps).steps state.tally.steps) refl refl p
       (λ high. passes_are n mid reached (rw p.times_is high))
     where
       calls : List ℕ
@@ -241,15 +251,15 @@ module _ {jobs : ℕ} {rules : List Rule} (a : Accepted jobs rules) where
       reached = (played a state d calls).reached
 
       w : Run
-      w = pass (floor rules) rules state.times state.tally.steps
+      w = pass (floor rules) (clauses_of rules) state.times state.tally.steps
 
       joined : run_through jobs rules state (rounds (suc n) (length rules)) ≡ run_through jobs rules mid (rounds n (length rules))
       joined = run_append jobs rules state calls (rounds n (length rules))
 
       go : (b c : Bool) → fallen w.end ≡ b → eqb w.steps state.tally.steps ≡ c → PassIs jobs rules rules state calls w →
-          (below_floor (floor rules) w.times ≡ false → PassesAre jobs rules mid n (passes n (floor rules) rules mid.times mid.tally.steps)) →
+          (below_floor (floor rules) w.times ≡ false → PassesAre jobs rules mid n (passes n (floor rules) (clauses_of rules) mid.times mid.tally.steps)) →
           PassesAre jobs rules state (suc n)
-          (cond b w (cond c (record { times = w.times; steps = w.steps; end = planned }) (passes n (floor rules) rules w.times w.steps)))
+          (cond b w (cond c (record { times = w.times; steps = w.steps; end = planned }) (passes n (floor rules) (clauses_of rules) w.times w.steps)))
       go true c e g p on =
           let end = joined ∙ stay_low a mid reached (rw p.times_is (p.below e)) (rounds n (length rules)) in
           record {
@@ -271,8 +281,8 @@ module _ {jobs : ℕ} {rules : List Rule} (a : Accepted jobs rules) where
             ends = λ few q. (ends_apart {j = 0}).1 q;
           }
       go false false e g p on =
-          let same : passes n (floor rules) rules mid.times mid.tally.steps ≡ passes n (floor rules) rules w.times w.steps =
-          ap (λ (t : List ℤ). passes n (floor rules) rules t mid.tally.steps) p.times_is ∙ ap (λ (k : ℕ). passes n (floor rules) rules w.times k) p.steps_is in
+          let same : passes n (floor rules) (clauses_of rules) mid.times mid.tally.steps ≡ passes n (floor rules) (clauses_of rules) w.times w.steps =
+          ap (λ (t : List ℤ). passes n (floor rules) (clauses_of rules) t mid.tally.steps) p.times_is ∙ ap (λ (k : ℕ). passes n (floor rules) (clauses_of rules) w.times k) p.steps_is in
           let ih = subst (PassesAre jobs rules mid n) same (on (p.above e)) in
           record {
             times_is = ap (λ (s : State). s.times) joined ∙ ih.times_is;

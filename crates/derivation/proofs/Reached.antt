@@ -16,10 +16,10 @@ use Rattle.maxatom.specs.declared.Rule.{Rule}
 use Rattle.maxatom.specs.Clauses.{Clause, clauses_of}
 use Rattle.maxatom.proofs.Choose.{clash}
 use Rattle.maxatom.proofs.Integers.{up, dn, le_read, le_make, eq_make, add_parts, neg_parts, minus_parts, true_le, lt_false, false_lt, true_eq}
-use Rattle.maxatom.proofs.Lists.{time_each, sum_by}
-use Rattle.maxatom.proofs.Clauses.{total_of}
+use Rattle.maxatom.specs.Runs.{sum_by}
+use Rattle.maxatom.proofs.Lists.{time_each}
 use Rattle.maxatom.proofs.Derivations.{Derivation, Setting, same_length, under_latest, few_steps, not_far, minutes_lost, floor_under}
-use Rattle.maxatom.proofs.Rules.{total_same, setting, zero_time}
+use Rattle.maxatom.proofs.Rules.{weighed, setting, zero_time}
 use Rattle.derivation.specs.Refusals.{Reply, refused, answer, Check, reply, verdict, lent, times_checks}
 use Rattle.derivation.specs.Step.{State, rule_at, in_range, below_floor, sum_z, fits, rule_step_checks, step_checks, step_on, Called, called_by, step_call}
 use Rattle.derivation.proofs.Checks.{says, skips, skips_all, refused_append, times_pass}
@@ -112,9 +112,8 @@ module _ {jobs : ℕ} {rules : List Rule} (a : Accepted jobs rules) where
           le_make
               (omega (
                 arith,
-                le_read (not_far (set_of a).weighed (floor_under (set_of a)) d job),
-                add_parts (time_at state.times job) (pos (total_of (clauses_of rules))),
-                total_same rules,
+                le_read (not_far (weighed rules) (floor_under (set_of a)) d job),
+                add_parts (time_at state.times job) (pos (total rules)),
                 minus_parts (total rules),
                 minus_parts (2 * total rules),
               )),

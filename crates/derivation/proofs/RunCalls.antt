@@ -6,11 +6,12 @@ use Prim.Native.Nat.{ℕ}
 use lib.IntN.{ℤ}
 use Rattle.maxatom.specs.Book.{Accepted}
 use Rattle.maxatom.specs.declared.Rule.{Rule}
+use Rattle.maxatom.specs.Runs.{planned, fell}
 use Rattle.derivation.specs.Refusals.{Reply, refused, answer, accepts, lent, verdict, times_checks}
-use Rattle.derivation.specs.Run.{planned, fell, solve}
+use Rattle.derivation.specs.Run.{solve}
 use Rattle.derivation.specs.Calls.{Answer, answer_of, run_reply, run_times}
 use Rattle.derivation.specs.Faults.{number_of}
-use Rattle.derivation.specs.Replies.{solved_reply, solved_answer, Meaning, SolvedAs, SolvedCall}
+use Rattle.derivation.specs.Replies.{solved_reply, Meaning, SolvedAs, SolvedCall}
 use Rattle.derivation.specs.declared.Refusal.{Refusal}
 use Rattle.derivation.specs.declared.Solved.{Solved}
 use Rattle.derivation.proofs.Checks.{accepting, passed, refused_same, answered_same, times_accepted}

@@ -2,9 +2,10 @@
 use Rattle.std.specs.Prelude.{Bool, cond, List, [], ◌∷◌, ◌++◌, ℕ, ◌+◌, length, replicate, ℤ, pos}
 use Rattle.maxatom.specs.Rule.{satisfied, tight}
 use Rattle.maxatom.specs.declared.Rule.{Rule}
+use Rattle.maxatom.specs.Runs.{End, Run}
 use Rattle.derivation.specs.Refusals.{Reply, reply, verdict, lent, jobs_check, size_check, times_checks, rule_check}
 use Rattle.derivation.specs.Step.{rule_at}
-use Rattle.derivation.specs.Run.{End, Run, solve}
+use Rattle.derivation.specs.Run.{solve}
 
 -- kept test: every rule is satisfied (kept), or the number of the first violated (broken) one
 pub data ModelCheck : Type 0 where

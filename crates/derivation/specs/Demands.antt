@@ -3,10 +3,11 @@ use Rattle.std.specs.Prelude.{◌≡◌, ◌↔◌, ◌⊎◌, true, false, List
 use Rattle.maxatom.specs.Rule.{time_at, left_side, satisfied}
 use Rattle.maxatom.specs.Book.{Each, Accepted, AllSatisfied, Satisfiable, Plan, Under, total, floor}
 use Rattle.maxatom.specs.declared.Rule.{Rule}
+use Rattle.maxatom.specs.Runs.{planned, fell, unfinished}
 use Rattle.derivation.specs.Refusals.{refused}
 use Rattle.derivation.specs.Step.{State, initial, rule_at, below_floor}
 use Rattle.derivation.specs.Play.{Entry, play, end_state, stepped, count_steps, sum_minutes, rounds}
-use Rattle.derivation.specs.Run.{planned, fell, unfinished, pass_bound, solve}
+use Rattle.derivation.specs.Run.{pass_bound, solve}
 
 -- Demand 3. "which calls stepped": it named a rule of the book, broken just then, while no job stood below the floor
 pub record Due (rules : List Rule) (e : Entry) : Type 0 where

@@ -4,12 +4,13 @@ use Rattle.std.specs.Bool.{beq}
 use Rattle.maxatom.specs.Rule.{satisfied, tight, eq_z}
 use Rattle.maxatom.specs.Class.{class_of}
 use Rattle.maxatom.specs.Book.{total, minus}
+use Rattle.maxatom.specs.Runs.{End, planned, fell, unfinished}
 use Rattle.maxatom.specs.declared.Rule.{Rule}
 use Rattle.maxatom.specs.declared.Class.{Class}
 use Rattle.maxatom.specs.declared.Class.TheVariants.{Tautology, Contradiction, Difference, Disjunctive}
 use Rattle.derivation.specs.Refusals.{accepts}
 use Rattle.derivation.specs.Step.{State, rule_at, step_call}
-use Rattle.derivation.specs.Run.{End, planned, fell, unfinished, solve}
+use Rattle.derivation.specs.Run.{solve}
 
 -- what the paper says of a book
 pub data Claim : Type 0 where

@@ -2,10 +2,10 @@
 use Rattle.std.specs.Prelude.{◌≡◌, Bool, List, ℕ, ◌+◌, ◌*◌, ◌≤◌, ℤ, Option, Some, None, Result, Ok, Err, ⊤}
 use Rattle.maxatom.specs.Book.{Satisfiable, Plan, total}
 use Rattle.maxatom.specs.declared.Rule.{Rule}
+use Rattle.maxatom.specs.Runs.{Run, planned, fell}
 use Rattle.derivation.specs.Refusals.{Reply, refused, answer}
 use Rattle.derivation.specs.Faults.{number_of}
 use Rattle.derivation.specs.Step.{State}
-use Rattle.derivation.specs.Run.{Run, planned, fell}
 use Rattle.derivation.specs.Calls.{ModelCheck, satisfies, violates, Answer, answer_of, run_reply, run_times}
 use Rattle.derivation.specs.declared.Tally.{Tally}
 use Rattle.derivation.specs.declared.Refusal.{Refusal}

@@ -1,7 +1,7 @@
 -- The replies as C sees them: three words.
 use Rattle.std.specs.Prelude.{Bool, true, false, ℕ, ◌-◌}
 use Rattle.derivation.specs.Refusals.{Reply, refused, answer}
-use Rattle.derivation.specs.Run.{End, planned, fell, unfinished}
+use Rattle.maxatom.specs.Runs.{End, planned, fell, unfinished}
 use Rattle.derivation.specs.Calls.{ModelCheck, satisfies, violates, Answer}
 use Rattle.derivation.specs.declared.Counts.{Counts}
 use Rattle.derivation.specs.declared.Refusal.{Refusal}

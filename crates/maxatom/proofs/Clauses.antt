@@ -8,7 +8,8 @@ use lib.IntN.{ℤ, ◌+ℤ◌}
 use lib.Signed.{◌≤ℤ◌}
 use Rattle.maxatom.specs.Rule.{max_z}
 use Rattle.maxatom.specs.Book.{Each}
-use Rattle.maxatom.specs.Clauses.{In, here, there, Arm, Clause, Assignment, arm_time, greatest, left_of, Keeps}
+use Rattle.maxatom.specs.Clauses.{In, here, there, Clause, Assignment, arm_time, greatest, left_of, Keeps}
+use Rattle.maxatom.specs.declared.Arm.{Arm}
 use Rattle.maxatom.proofs.Integers.{dn, le_read, le_make, add_parts, ≤ℤ-trans, add_mono, max_cases, max_left, max_right}
 use Rattle.maxatom.proofs.Lists.{each_in, in_each}
 
@@ -19,19 +20,16 @@ KeepsAll t cs = Each (Keeps t) cs
 abbrev pub Below : Assignment → Assignment → Type 0
 Below s t = (job : ℕ) → s job ≤ℤ t job
 
--- each arm lowers by at most the clause's weight
-abbrev pub Weighed : List Clause → Type 0
-Weighed cs = Each (λ c. Each (λ (a : Arm). dn a.offset ≤ c.weight) (c.first ∷ c.others)) cs
+-- each clause has a weight, and no arm of it lowers by more: the sum of the weights
+pub data Weighed : List Clause → ℕ → Type 0 where
+  none : Weighed [] 0
+  more : {c : Clause} {cs : List Clause} {total : ℕ} (weight : ℕ) → Each (λ (a : Arm). dn a.offset ≤ weight) (c.first ∷ c.others) → Weighed cs total → Weighed (c ∷ cs) (weight + total)
 
-unfoldable pub total_of : List Clause → ℕ
-total_of [] = 0
-total_of (c ∷ cs) = c.weight + total_of cs
-
-pub weight_total : (cs : List Clause) {c : Clause} → In c cs → c.weight ≤ total_of cs
-unfolding total_of
-weight_total [] i = elim i [ ]
-weight_total (c ∷ cs) here = omega arith
-weight_total (c ∷ cs) (there i) = omega (arith, weight_total cs i)
+-- no first arm of a clause lowers by more than the total
+pub first_total : {cs : List Clause} {total : ℕ} → Weighed cs total → {c : Clause} → In c cs → dn c.first.offset ≤ total
+first_total none i = elim i [ ]
+first_total (more n e w) here = omega (arith, e.0)
+first_total (more n e w) (there i) = omega (arith, first_total w i)
 
 -- an arm that reaches what the left side reaches
 pub record Reaching (t : Assignment) (a : Arm) (l : List Arm) (v : ℤ) : Type 0 where

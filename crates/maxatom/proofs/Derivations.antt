@@ -11,10 +11,12 @@ use lib.IntN.{ℤ, pos, ◌+ℤ◌}
 use lib.Signed.{◌≤ℤ◌, ◌<ℤ◌, le_z}
 use Rattle.maxatom.specs.Rule.{time_at, minutes_off}
 use Rattle.maxatom.specs.Book.{Each}
-use Rattle.maxatom.specs.Clauses.{In, here, Arm, Clause, Assignment, left_of, Keeps, stepped}
+use Rattle.maxatom.specs.Clauses.{In, here, Clause, Assignment, left_of, Keeps, stepped}
+use Rattle.maxatom.specs.declared.Arm.{Arm}
 use Rattle.maxatom.proofs.Integers.{up, dn, le_read, le_make, lt_read, add_parts, off_most, off_parts, le_true, le_false, ≤ℤ-trans}
-use Rattle.maxatom.proofs.Lists.{each_in, in_each, set_time, sum_by, sum_set, sum_most}
-use Rattle.maxatom.proofs.Clauses.{KeepsAll, Below, Weighed, total_of, weight_total, reached, left_mono}
+use Rattle.maxatom.specs.Runs.{sum_by, room}
+use Rattle.maxatom.proofs.Lists.{each_in, in_each, set_time, sum_set, sum_most}
+use Rattle.maxatom.proofs.Clauses.{KeepsAll, Below, Weighed, first_total, reached, left_mono}
 use Rattle.maxatom.proofs.SmallModels.{Small, lemma_2}
 
 -- a clause may be stepped on: it is in the set, violated, and no job stands below the floor
@@ -71,37 +73,33 @@ module _ {cs : List Clause} {floor : ℤ} {latest : List ℤ} where
       omega (arith, few_steps d, lt_read due.violated, off_most (time_at b c.target) (left_of (time_at b) c))
 
   -- no time lies further below the floor than one offset
-  pub not_far : Weighed cs → ((job : ℕ) → floor ≤ℤ time_at latest job) → {b : List ℤ} {s m : ℕ} → Derivation cs floor latest b s m →
-      (job : ℕ) → floor ≤ℤ (time_at b job +ℤ pos (total_of cs))
-  not_far w h start job = le_make (omega (arith, le_read (h job), add_parts (time_at latest job) (pos (total_of cs))))
-  not_far w h (step {times = b} c d due) job =
-      set_time (λ (v : ℤ). floor ≤ℤ (v +ℤ pos (total_of cs))) b c.target job (left_of (time_at b) c) (not_far w h d job) (λ e. lowest)
+  pub not_far : {total : ℕ} → Weighed cs total → ((job : ℕ) → floor ≤ℤ time_at latest job) → {b : List ℤ} {s m : ℕ} → Derivation cs floor latest b s m →
+      (job : ℕ) → floor ≤ℤ (time_at b job +ℤ pos (total))
+  not_far {total = total} w h start job = le_make (omega (arith, le_read (h job), add_parts (time_at latest job) (pos (total))))
+  not_far {total = total} w h (step {times = b} c d due) job =
+      set_time (λ (v : ℤ). floor ≤ℤ (v +ℤ pos (total))) b c.target job (left_of (time_at b) c) (not_far w h d job) (λ e. lowest)
     where
       a : Arm
       a = c.first
 
-      lowest : floor ≤ℤ (left_of (time_at b) c +ℤ pos (total_of cs))
+      lowest : floor ≤ℤ (left_of (time_at b) c +ℤ pos (total))
       lowest =
           le_make
           (omega (
             arith,
             le_read (reached (time_at b) a c.others here),
             add_parts (time_at b a.job) a.offset,
-            add_parts (left_of (time_at b) c) (pos (total_of cs)),
+            add_parts (left_of (time_at b) c) (pos (total)),
             le_read (due.high a.job),
-            (each_in (λ (x : Clause). Each (λ (y : Arm). dn y.offset ≤ x.weight) (x.first ∷ x.others)) cs w due.among).0,
-            weight_total cs due.among,
+            first_total w due.among,
           ))
 
 -- what a derivation starts from: each arm is weighed, each target is a job, and the floor is the total below every latest time
 pub record Setting (cs : List Clause) (floor : ℤ) (latest : List ℤ) : Type 0 where
-  pub weighed : Weighed cs
+  pub total : ℕ
+  pub weighed : Weighed cs total
   pub targets : Each (λ c. c.target < length latest) cs
-  pub deep : (job : ℕ) → (floor +ℤ pos (total_of cs)) ≤ℤ time_at latest job
-
--- the minutes from the latest times down to the floor
-abbrev pub room : ℤ → List ℤ → ℕ
-room floor latest = sum_by (λ t. minutes_off t floor) latest
+  pub deep : (job : ℕ) → (floor +ℤ pos total) ≤ℤ time_at latest job
 
 high_room : (floor : ℤ) (latest b : List ℤ) → length b ≡ length latest → ((job : ℕ) → floor ≤ℤ time_at b job) →
     sum_by up latest + sum_by dn b ≤ sum_by dn latest + sum_by up b + room floor latest
@@ -114,7 +112,7 @@ high_room floor (u ∷ latest) (t ∷ b) e h =
 
 module _ {cs : List Clause} {floor : ℤ} {latest : List ℤ} (set : Setting cs floor latest) where
   pub floor_under : (job : ℕ) → floor ≤ℤ time_at latest job
-  floor_under job = le_make (omega (arith, le_read (set.deep job), add_parts floor (pos (total_of cs))))
+  floor_under job = le_make (omega (arith, le_read (set.deep job), add_parts floor (pos set.total)))
 
   -- the minutes are what the times have lost
   pub minutes_lost : {b : List ℤ} {s m : ℕ} → Derivation cs floor latest b s m → sum_by up latest + sum_by dn b ≡ sum_by dn latest + sum_by up b + m
@@ -144,7 +142,7 @@ module _ {cs : List Clause} {floor : ℤ} {latest : List ℤ} (set : Setting cs 
   longest_high d h = omega (arith, few_steps d, few_minutes d h)
 
   module _ (t : Assignment) (model : KeepsAll t cs) (under : Below t (time_at latest)) where
-    small : Small cs (time_at latest) (floor +ℤ pos (total_of cs))
+    small : Small cs set.total (time_at latest) (floor +ℤ pos set.total)
     small =
         lemma_2 cs set.weighed (time_at latest) _ (pos (sum_by up latest)) set.deep
         (λ job. le_make (omega (arith, sum_most up latest job refl))) t model under
@@ -153,7 +151,7 @@ module _ {cs : List Clause} {floor : ℤ} {latest : List ℤ} (set : Setting cs 
     pub stays_high : {b : List ℤ} {s m : ℕ} → Derivation cs floor latest b s m → (job : ℕ) → floor ≤ℤ time_at b job
     stays_high {b = b} d job =
         ≤ℤ-trans {b = small.times job}
-        (le_make (omega (arith, le_read (small.near job), add_parts floor (pos (total_of cs)), add_parts (small.times job) (pos (total_of cs)))))
+        (le_make (omega (arith, le_read (small.near job), add_parts floor (pos set.total), add_parts (small.times job) (pos set.total))))
         (lemma_7 small.times small.keeps small.under d job)
 
     -- one as long as the room ends at a model

@@ -6,9 +6,12 @@ pub mod Counting
 pub mod Clauses
 pub mod SmallModels
 pub mod Derivations
-pub mod Jumps
-pub mod Parts
+pub mod Walks
+pub mod Runs
+pub mod Lockstep
+pub mod Components
 pub mod Lines
 pub mod Rules
 pub mod Plans
 pub mod Classes
+pub mod Signed

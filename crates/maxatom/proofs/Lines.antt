@@ -12,16 +12,17 @@ use lib.Dec.{leb}
 use borrow.Author.Tests.{leb-true, leb-false}
 use Rattle.maxatom.specs.Rule.{time_at}
 use Rattle.maxatom.specs.Clauses.{Clause}
-use Rattle.maxatom.specs.Jumps.{Rounds, Passing, Traced, Along, start, round}
+use Rattle.maxatom.specs.Passes.{LockstepPasses, Passing, Traced, Along, start, round}
 use Rattle.maxatom.proofs.Integers.{le_read, le_make, eq_make, add_parts}
-use Rattle.maxatom.proofs.Jumps.{Aparts, Down, repeats}
-use Rattle.maxatom.proofs.Parts.{recounted, walk_low, pass_low}
+use Rattle.maxatom.proofs.Lockstep.{Aparts, Down, repeats}
+use Rattle.maxatom.proofs.Walks.{walk_low}
+use Rattle.maxatom.proofs.Components.{recounted, passing_low}
 
 -- a time that starts, or does not fall, or counts from another time
 pub along_start : {p minutes : ℕ} (b : ℤ) → Along p minutes b 0 b
 along_start {minutes = minutes} b =
     record {
-      rounds = 0;
+      periods = 0;
       begun = omega arith;
       ended = omega arith;
       below = le_make (omega (arith, add_parts b (pos (0 * minutes))));
@@ -31,7 +32,7 @@ along_start {minutes = minutes} b =
 pub along_still : (i : ℕ) (b : ℤ) → Along 1 0 b i b
 along_still i b =
     record {
-      rounds = i;
+      periods = i;
       begun = omega arith;
       ended = omega arith;
       below = le_make (omega (arith, add_parts b (pos (i * 0))));
@@ -40,10 +41,10 @@ along_still i b =
 
 pub along_shift : {p minutes i : ℕ} {b v : ℤ} (k : ℤ) → Along p minutes b i v → Along p minutes (b +ℤ k) i (v +ℤ k)
 along_shift {minutes = minutes} {b = b} {v = v} k l =
-    let low = pos (l.rounds * minutes) in
-    let high = pos ((l.rounds + 1) * minutes) in
+    let low = pos (l.periods * minutes) in
+    let high = pos ((l.periods + 1) * minutes) in
     record {
-      rounds = l.rounds;
+      periods = l.periods;
       begun = l.begun;
       ended = l.ended;
       below = le_make (omega (arith, le_read l.below, add_parts v low, add_parts (v +ℤ k) low, add_parts v k, add_parts b k));
@@ -65,12 +66,12 @@ module _ {floor : ℤ} {cs : List Clause} {least : ℕ} {P : ℕ → Type 0} {pa
       (round up_to_lem w h
       (λ job i.
       record {
-        rounds = q;
+        periods = q;
         begun = omega arith;
         ended = omega arith;
         below = rw (is job i) (le_make (omega (
           arith,
-          le_read (pass_low l job),
+          le_read (passing_low l job),
           le_read (walk_low w job),
           add_parts (time_at m job) (pos (q * minutes job)),
           add_parts (time_at e job) (pos (q * minutes job)),
@@ -78,11 +79,11 @@ module _ {floor : ℤ} {cs : List Clause} {least : ℕ} {P : ℕ → Type 0} {pa
         above = above job i;
       }))
 
--- the jump, traced
-pub jump_along : {floor : ℤ} {cs : List Clause} {b c near far : List ℤ} {passes s : ℕ} → Rounds floor cs b c near far passes s → (t : ℕ) → 1 ≤ t →
+-- the repetitions, traced
+pub repeated_along : {floor : ℤ} {cs : List Clause} {b c near far : List ℤ} {passes s : ℕ} → LockstepPasses floor cs b c near far passes s → (t : ℕ) → 1 ≤ t →
     Aparts t b near c far → {P : ℕ → Type 0} (minutes : ℕ → ℕ) → ((job : ℕ) → P job → time_at b job ≡ time_at near job +ℤ pos (minutes job)) →
     Traced floor cs 1 P (λ job i v. Along passes (minutes job) (time_at b job) i v) b far ((t + 1) * passes) ((t + 1) * s)
-jump_along {floor = floor} {cs = cs} {b = b} {passes = passes} {s = s} r t some a {P = P} minutes is =
+repeated_along {floor = floor} {cs = cs} {b = b} {passes = passes} {s = s} r t some a {P = P} minutes is =
     recounted (omega arith) (omega arith)
     (repeats r t some a (λ q m. Traced floor cs 1 P (λ job i v. Along passes (minutes job) (time_at b job) i v) b m (q * passes) (q * s))
     (λ q m e h h' k g.
@@ -92,9 +93,9 @@ jump_along {floor = floor} {cs = cs} {b = b} {passes = passes} {s = s} r t some 
     (recounted (omega arith) (omega arith) (start (λ job i. along_start (time_at b job)))))
 
 -- and where it ends
-pub jump_ends : {floor : ℤ} {cs : List Clause} {b c near far : List ℤ} {passes s : ℕ} → Rounds floor cs b c near far passes s → (t : ℕ) → 1 ≤ t →
+pub repeated_ends : {floor : ℤ} {cs : List Clause} {b c near far : List ℤ} {passes s : ℕ} → LockstepPasses floor cs b c near far passes s → (t : ℕ) → 1 ≤ t →
     Aparts t b near c far → (job d : ℕ) → time_at b job ≡ time_at near job +ℤ pos d → time_at b job ≡ time_at far job +ℤ pos ((t + 1) * d)
-jump_ends {b = b} {near = near} r t some a job d e =
+repeated_ends {b = b} {near = near} r t some a job d e =
     let from : Down b near 0 b = record { at = λ j d e. eq_make (omega (arith, add_parts (time_at b j) (pos (0 * d)))) } in
     rw (add-one t) ((repeats r t some a (λ q m. Down b near q m) (λ q m e h h' k g. h') from).at job d e)
 
@@ -111,7 +112,7 @@ pub stays : (p q dx dy gap n : ℕ) {bx by : ℤ} → 1 ≤ p → 1 ≤ q → (b
     dx * (1 + p) * q + dy * p * q ≤ gap * p * q → dx * (n + 1 + p) * q + dy * p * q ≤ gap * p * q + dy * p * n →
     (i : ℕ) → i ≤ n → {vx vy : ℤ} → Along q dy by i vy → Along p dx bx (i + 1) vx → vy ≤ℤ vx
 stays p q dx dy gap n {by = by} some-x some-y room first last i h {vx = vx} {vy = vy} y x =
-    let enough : (x.rounds + 1) * dx ≤ gap + y.rounds * dy =
+    let enough : (x.periods + 1) * dx ≤ gap + y.periods * dy =
     le_of_mul-le-mul_left {k = p * q}
     (omega (
       arith,
@@ -126,6 +127,6 @@ stays p q dx dy gap n {by = by} some-x some-y room first last i h {vx = vx} {vy 
       le_read y.below,
       le_read x.above,
       add_parts by (pos gap),
-      add_parts vy (pos (y.rounds * dy)),
-      add_parts vx (pos ((x.rounds + 1) * dx)),
+      add_parts vy (pos (y.periods * dy)),
+      add_parts vx (pos ((x.periods + 1) * dx)),
     ))

@@ -25,7 +25,7 @@ plan_unique {p = p} {q = q} a b =
 -- an assignment that keeps all, and agrees with the times at the jobs of the book
 kept_by : {jobs : ℕ} (rules : List Rule) (s : Assignment) (times : List ℤ) → Each (InBook jobs) rules →
     ((job : ℕ) → job < jobs → time_at times job ≡ s job) → KeepsAll s (clauses_of rules) → AllSatisfied rules times
-unfolding clauses_of greatest
+unfolding greatest
 kept_by [] s times b e k = tt
 kept_by (r ∷ rules) s times b e k =
     (kept r times (rw (e r.x b.0.first, e r.y b.0.second, e r.z b.0.third) k.0), kept_by rules s times b.1 e k.1)

@@ -10,11 +10,12 @@ use native.Mathlib.Omega.{arith}
 use lib.IntN.{ℤ, pos, neg_ℤ, ◌+ℤ◌}
 use lib.Signed.{◌≤ℤ◌}
 use Rattle.maxatom.specs.Book.{minus}
-use Rattle.maxatom.specs.Clauses.{Arm, Clause, Assignment, Keeps}
+use Rattle.maxatom.specs.Clauses.{Clause, Assignment, Keeps}
+use Rattle.maxatom.specs.declared.Arm.{Arm}
 use Rattle.maxatom.proofs.Integers.{up, dn, le_read, le_make, add_parts, neg_parts, minus_parts, up_zero, ≤ℤ-trans, add_mono}
 use Rattle.maxatom.proofs.Lists.{each_in}
 use Rattle.maxatom.proofs.Counting.{count, count_none, count_or, count_slow, count_mono, count_all, within, within_count, within_true}
-use Rattle.maxatom.proofs.Clauses.{KeepsAll, Below, Weighed, total_of, Reaching, reaching, reached, lemma_1}
+use Rattle.maxatom.proofs.Clauses.{KeepsAll, Below, Weighed, none, more, Reaching, reaching, reached, lemma_1}
 
 module _ (t : Assignment) where
   chosen : (c : Clause) → Keeps t c → Reaching t c.first c.others (t c.target)
@@ -28,17 +29,17 @@ module _ (t : Assignment) where
   covered [] m place = false
   covered (c ∷ cs) (k, m) place = spanned c k place || covered cs m place
 
-  covered_count : (cs : List Clause) (m : KeepsAll t cs) → Weighed cs → (d : ℕ) → count (covered cs m) d ≤ total_of cs
-  unfolding covered total_of spanned
-  covered_count [] m w d = omega (arith, count_none d)
-  covered_count (c ∷ cs) (k, m) w d =
+  covered_count : (cs : List Clause) (m : KeepsAll t cs) → {total : ℕ} → Weighed cs total → (d : ℕ) → count (covered cs m) d ≤ total
+  unfolding covered spanned
+  covered_count [] m none d = omega (arith, count_none d)
+  covered_count (c ∷ cs) (k, m) (more weight e w) d =
       let r = chosen c k in
       omega (
         arith,
         count_or (within (dn (t r.arm.job)) (dn r.arm.offset)) (covered cs m) d,
         within_count (dn (t r.arm.job)) (dn r.arm.offset) d,
-        each_in (λ (a : Arm). dn a.offset ≤ c.weight) (c.first ∷ c.others) w.0 r.among,
-        covered_count cs m w.1 d,
+        each_in (λ (a : Arm). dn a.offset ≤ weight) (c.first ∷ c.others) e r.among,
+        covered_count cs m w d,
       )
 
 -- only the places that pass the test are kept
@@ -84,16 +85,16 @@ squeeze_keeps p t low (c ∷ cs) (k, m) cov =
     )
 
 -- what Lemma 2 gives: a model under the latest times, no lower than `low` minus the total
-pub record Small (cs : List Clause) (latest : Assignment) (low : ℤ) : Type 0 where
+pub record Small (cs : List Clause) (total : ℕ) (latest : Assignment) (low : ℤ) : Type 0 where
   pub times : Assignment
   pub keeps : KeepsAll times cs
   pub under : Below times latest
-  pub near : (job : ℕ) → low ≤ℤ (times job +ℤ pos (total_of cs))
+  pub near : (job : ℕ) → low ≤ℤ (times job +ℤ pos (total))
 
-module _ (cs : List Clause) (weighed : Weighed cs) where
+module _ (cs : List Clause) {total : ℕ} (weighed : Weighed cs total) where
   -- where no latest time is above zero
   small_below : (latest : Assignment) (low : ℤ) → ((job : ℕ) → low ≤ℤ latest job) → NotAfterZero latest →
-      (t : Assignment) → KeepsAll t cs → Below t latest → Small cs latest low
+      (t : Assignment) → KeepsAll t cs → Below t latest → Small cs total latest low
   small_below latest low lowest neg t m u = record { times = squeeze p t; keeps = squeeze_keeps p t early cs m (λ x e. or_right (within 0 (dn low) x) (covered t cs m x) e); under = under'; near = near' }
     where
       p : ℕ → Bool
@@ -113,14 +114,14 @@ module _ (cs : List Clause) (weighed : Weighed cs) where
           (omega
           (arith, minus_parts (count p (dn (t job))), top (dn (t job)), le_read (u job), up_zero (neg job), le_read (lowest job), up_zero (early job)))
 
-      near' : (job : ℕ) → low ≤ℤ (squeeze p t job +ℤ pos (total_of cs))
+      near' : (job : ℕ) → low ≤ℤ (squeeze p t job +ℤ pos (total))
       near' job =
           let d = dn (t job) in
           le_make
           (omega (
             arith,
             minus_parts (count p d),
-            add_parts (squeeze p t job) (pos (total_of cs)),
+            add_parts (squeeze p t job) (pos (total)),
             count_or (within 0 (dn low)) (covered t cs m) d,
             within_count 0 (dn low) d,
             covered_count t cs m weighed d,
@@ -129,7 +130,7 @@ module _ (cs : List Clause) (weighed : Weighed cs) where
 
   -- whatever the sign of the latest times
   pub lemma_2 : (latest : Assignment) (low top : ℤ) → ((job : ℕ) → low ≤ℤ latest job) → ((job : ℕ) → latest job ≤ℤ top) →
-      (t : Assignment) → KeepsAll t cs → Below t latest → Small cs latest low
+      (t : Assignment) → KeepsAll t cs → Below t latest → Small cs total latest low
   lemma_2 latest low top lowest most t m u =
       record {
         times = λ job. s.times job +ℤ top;
@@ -142,8 +143,8 @@ module _ (cs : List Clause) (weighed : Weighed cs) where
               arith,
               le_read (s.near job),
               add_parts (s.times job) top,
-              add_parts (s.times job +ℤ top) (pos (total_of cs)),
-              add_parts (s.times job) (pos (total_of cs)),
+              add_parts (s.times job +ℤ top) (pos (total)),
+              add_parts (s.times job) (pos (total)),
               add_parts low d,
               neg_parts top,
             ));
@@ -155,7 +156,7 @@ module _ (cs : List Clause) (weighed : Weighed cs) where
       lower : {a b : ℤ} → a ≤ℤ b → (a +ℤ d) ≤ℤ (b +ℤ d)
       lower {a = a} {b = b} h = add_mono a b d h
 
-      s : Small cs (λ job. latest job +ℤ d) (low +ℤ d)
+      s : Small cs total (λ job. latest job +ℤ d) (low +ℤ d)
       s =
           small_below (λ job. latest job +ℤ d) (low +ℤ d) (λ job. lower (lowest job))
           (λ job. le_make (omega (arith, le_read (most job), add_parts (latest job) d, neg_parts top)))

@@ -1,19 +1,28 @@
 -- Clauses with any number of arms, each with its own offset: max(v₁ + k₁, …) ≥ z. A rule of document 01 is one with two arms and one offset.
-use Rattle.std.specs.Prelude.{List, [], ◌∷◌, ℕ, set, ℤ, ◌+ℤ◌, nat_abs, ◌≤ℤ◌}
+use Rattle.std.specs.Prelude.{Bool, List, [], ◌∷◌, map, ℕ, ◌<◌, set, get_or, ℤ, ◌+ℤ◌, ◌≤ℤ◌}
+use Rattle.std.specs.Int.Signed.{le_z}
 use Rattle.maxatom.specs.Rule.{time_at, max_z}
+use Rattle.maxatom.specs.Book.{Each}
 use Rattle.maxatom.specs.declared.Rule.{Rule}
+use Rattle.maxatom.specs.declared.Arm.{Arm}
 
--- a job and an offset
-pub record Arm : Type 0 where
-  pub job : ℕ
-  pub offset : ℤ
-
--- weight: what the clause adds to K
+-- the largest of its arms is to be at least the target's time
 pub record Clause : Type 0 where
   pub first : Arm
   pub others : List Arm
   pub target : ℕ
-  pub weight : ℕ
+
+abbrev pub arms_of : Clause → List Arm
+arms_of c = c.first ∷ c.others
+
+-- the arm of a number, the first where there is none
+abbrev pub arm_at : Clause → ℕ → Arm
+arm_at c i = get_or (arms_of c) i c.first
+
+-- the jobs of a clause are below the job count
+pub record InJobs (jobs : ℕ) (c : Clause) : Type 0 where
+  pub arms : Each (λ (a : Arm). a.job < jobs) (arms_of c)
+  pub target : c.target < jobs
 
 -- a time for each job
 abbrev pub Assignment : Type 0
@@ -35,17 +44,20 @@ left_of t c = greatest t c.first c.others
 abbrev pub Keeps : Assignment → Clause → Type 0
 Keeps t c = t c.target ≤ℤ left_of t c
 
+-- the test of it
+unfoldable pub kept : Clause → List ℤ → Bool
+kept c times = le_z (time_at times c.target) (left_of (time_at times) c)
+
 -- a step: the target gets the left side
 abbrev pub stepped : List ℤ → Clause → List ℤ
 stepped times c = set times c.target (left_of (time_at times) c)
 
 -- a rule as a clause
 abbrev pub clause_of : Rule → Clause
-clause_of r = record { first = record { job = r.x; offset = r.k }; others = record { job = r.y; offset = r.k } ∷ []; target = r.z; weight = nat_abs r.k }
+clause_of r = record { first = record { job = r.x; offset = r.k }; others = record { job = r.y; offset = r.k } ∷ []; target = r.z }
 
-unfoldable pub clauses_of : List Rule → List Clause
-clauses_of [] = []
-clauses_of (r ∷ rules) = clause_of r ∷ clauses_of rules
+abbrev pub clauses_of : List Rule → List Clause
+clauses_of rules = map clause_of rules
 
 -- one of a list
 pub data In {A : Type 0} : A → List A → Type 0 where

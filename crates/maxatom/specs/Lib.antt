@@ -3,4 +3,5 @@ pub mod Class
 pub mod ClassNumber
 pub mod Book
 pub mod Clauses
-pub mod Jumps
+pub mod Passes
+pub mod Runs

@@ -15,6 +15,13 @@ pub struct Rule {
     pub k: i32,
 }
 
+// An arm of a clause: a job and its offset.
+#[derive(Clone, Copy, PartialEq, Eq)]
+pub struct Arm {
+    pub job: u16,
+    pub offset: i32,
+}
+
 // In the words of the formats: idle, impossible, one-armed, two-armed.
 #[derive(Clone, Copy, PartialEq, Eq)]
 pub enum Class {

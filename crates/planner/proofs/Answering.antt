@@ -19,11 +19,11 @@ use Rattle.std.proofs.lemmas.List.{get_or_default}
 use Rattle.std.proofs.lemmas.Iterator.Adapters.{position_from-zero}
 use Rattle.maxatom.specs.Rule.{satisfied, tight}
 use Rattle.maxatom.specs.Book.{InBook, total, minus}
+use Rattle.maxatom.specs.Clauses.{InJobs, clause_of}
 use Rattle.maxatom.specs.declared.Rule.{Rule}
 use Rattle.derivation.specs.Faults.{number_of}
 use Rattle.derivation.specs.Refusals.{Reply, refused, answer, Check, reply, check, rule_check, times_checks, lent}
-use Rattle.solver.specs.Rules.{Named}
-use Rattle.solver.proofs.Laws.{in_book}
+use Rattle.solver.proofs.Laws.{in_book, in_jobs}
 use Rattle.solver.proofs.Steps.{total_bound, early_at, range_early, tally_room, lowerable, off_bound}
 use Rattle.derivation.specs.Step.{State, no_rule, rule_at, in_range, below_floor, fits, rule_step_checks, held_checks, step_checks, step_on, Called, called_by, step_call}
 use Rattle.derivation.specs.Calls.{violates, first_violated, model_check_call, tight_call}
@@ -119,11 +119,11 @@ module _ (jobs : ℕ) (rules : List Rule) (times : List ℤ) where
       pub rule_in_book : number < length rules → InBook (length times) (rule_at rules number)
       rule_in_book h = let s = sound jobs rules times e in rw s.size (in_book rules number s.accepted h)
 
-      pub rule_named : number < length rules → Named (rule_at rules number) (length times)
-      rule_named h = let b = rule_in_book h in record { first = b.first; second = b.second; third = b.third }
+      pub rule_in_jobs : number < length rules → InJobs (length times) (clause_of (rule_at rules number))
+      rule_in_jobs h = in_jobs (length times) (rule_at rules number) (rule_in_book h)
 
-    pub all_named : All (λ r. Named r (length times)) rules
-    all_named = λ i d h. rw (get_or_default rules i no_rule d h) at (rule_named i h)
+    pub all_in_jobs : All (λ r. InJobs (length times) (clause_of r)) rules
+    all_in_jobs = λ i d h. rw (get_or_default rules i no_rule d h) at (rule_in_jobs i h)
 
     module _ (number : ℕ) where
       pub tight_no_rule : length rules ≤ number → refused 24 0 ≡ tight_call jobs rules times number
@@ -194,7 +194,7 @@ module _ (jobs : ℕ) (rules : List Rule) (state : State) (number : ℕ) where
                 let (steps, minutes) = tally_room k state.tally state.times small (few_times jobs rules state.times e) range tally in
                 let b = rule_in_book jobs rules state.times e number of_book in
                 record {
-                  named = record { first = b.first; second = b.second; third = b.third };
+                  in_jobs = in_jobs _ _ b;
                   lowerable = lowerable small state.times early above (rule_at rules number) b h;
                   steps_fit = omega arith;
                   minutes_fit = omega (arith, off_bound small state.times early above (rule_at rules number) b h);

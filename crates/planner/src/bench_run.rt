@@ -11,5 +11,5 @@ pub fn solve(n: usize, rules: &[Rule], times: &mut [i32]) -> Result<Solved, Refu
     ensures { SolvedCall n rules.now times.old result times.new }
 {
     let k = check(n, rules, times)?;
-    Ok(run::solve(rules, k, times))
+    Ok(solver::solve(rules, k, times))
 }

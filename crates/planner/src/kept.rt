@@ -1,9 +1,9 @@
 // The kept test.
 ghost use Rattle.std.specs.Prelude.{◌≡◌, not, length, All, position};
 ghost use Rattle.maxatom.specs.Rule.{satisfied};
+ghost use Rattle.maxatom.specs.Clauses.{clause_of, InJobs};
 ghost use Rattle.derivation.specs.Calls.{model_check_call};
 ghost use Rattle.derivation.specs.Replies.{model_check_reply};
-ghost use Rattle.solver.specs.Rules.{Named};
 
 use crate::checks::check;
 use derivation::Refusal;
@@ -12,14 +12,14 @@ use solver::is_satisfied;
 
 // The number of the first violated rule.
 fn find_violated(rules: &[Rule], times: &[i32]) -> Option<usize>
-    requires { All (λ r. Named r (length times.now)) rules.now }
+    requires { All (λ r. InJobs (length times.now) (clause_of r)) rules.now }
     ensures { result ≡ position (λ r. not (satisfied r times.now)) rules.now }
 {
     rules.iter().position(|r| !is_satisfied(*r, times))
 }
 
 // Kept test: every rule is satisfied, or the first violated one. Any times.
-#[tactic(auto, using(crate::proofs::Answering::kept_refused, crate::proofs::Answering::all_named))]
+#[tactic(auto, using(crate::proofs::Answering::kept_refused, crate::proofs::Answering::all_in_jobs))]
 pub fn first_violated(n: usize, rules: &[Rule], times: &[i32]) -> Result<Option<usize>, Refusal>
     ensures { model_check_reply result ≡ model_check_call n rules.now times.now }
 {

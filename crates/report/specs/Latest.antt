@@ -2,7 +2,7 @@
 use Rattle.std.specs.Prelude.{List, [], ℕ, ℤ, pos, replicate}
 use Rattle.maxatom.specs.declared.Rule.{Rule}
 use Rattle.derivation.specs.Refusals.{Reply, refused, answer}
-use Rattle.derivation.specs.Run.{End, planned, fell, unfinished}
+use Rattle.maxatom.specs.Runs.{End, planned, fell, unfinished}
 use Rattle.derivation.specs.Calls.{Answer, run_reply, run_times}
 use Rattle.bookfile.specs.Replies.{file_reply}
 use Rattle.bookfile.specs.Theorems.{rules_of_file}

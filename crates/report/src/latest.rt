@@ -8,7 +8,7 @@ use crate::text::Text;
 use bookfile::reading::read_book;
 use derivation::Solved;
 use maxatom::Rule;
-use run::solve;
+use solver::solve;
 
 impl Text<'_> {
     // The report of an accepted book; the times are those of its jobs.

@@ -1,4 +1,3 @@
-pub mod Runs
 pub mod Settling
-pub mod Parts
-pub mod Watching
+pub mod Stretches
+pub mod Underway

@@ -1,169 +1,87 @@
--- Which rules may be violated: marks of blocks through steps and passes. Assumes nothing.
-use mathlib.Core.Path.{◌≡◌, refl, sym, ap, subst, ◌∙◌}
-use mathlib.Core.Bool.{true, false, true≢false}
-use mathlib.Core.List.{List}
-use Prim.Native.Nat.{ℕ, ◌+◌, ◌*◌, ◌<◌, ◌≤◌, ◌/◌, ◌%◌, ◌^◌, min}
-use native.Mathlib.Decide.{dec_lt, ℕ_discrete}
-use native.Mathlib.Omega.{arith}
-use lib.Bits.{bit_or, bit_xor}
-use lib.Pow.{shl_exact}
-use Rattle.std.proofs.lemmas.Nat.Bits.{bit_at-lt, bit_at_or, bit_at_xor, bit_at-pow_same, bit_at-pow_other}
-use lib.ListN.{length, get_or, set, length-set}
-use lib.Seq.{get_or-set_same, get_or-set_other}
-use borrow.Author.Count.{below_more}
-use lib.IntN.{ℤ, pos}
-use lib.Signed.{◌≤ℤ◌}
-use Rattle.maxatom.specs.Rule.{time_at, left_side, satisfied}
-use Rattle.maxatom.specs.declared.Rule.{Rule}
-use Rattle.maxatom.proofs.Integers.{lt_read, le_make, le_true, le_false, true_le, by_test, by_test_not, ≤ℤ-trans}
-use Rattle.maxatom.proofs.Lists.{set_time}
-use Rattle.derivation.specs.Step.{rule_at}
-use Rattle.run.specs.Blocks.{Marked, Reads, Settled}
-
-pub or_left : (a b : ℕ) {k : ℕ} → Marked a k → Marked (bit_or a b) k
-or_left a b {k = k} h = record { set = omega (arith, h.set, bit_at-lt b k, bit_at_or a b k) }
-
-pub or_right : (a b : ℕ) {k : ℕ} → Marked b k → Marked (bit_or a b) k
-or_right a b {k = k} h = record { set = omega (arith, h.set, bit_at-lt a k, bit_at_or a b k) }
+-- Which clauses may be violated: the bits of blocks, the readers of jobs, and what a pass leaves settled. Assumes nothing.
+use Rattle.std.proofs.Common.{◌≡◌, sym, ap, subst, ◌∙◌, ◌⊎◌, inl, inr, ⊎_elim, ℕ, ◌+◌, ◌-◌, ◌*◌, ◌<◌, ◌≤◌, ◌/◌, ◌%◌, ◌^◌, List, length, get_or, set, take, drop, ℤ, bit_or, bit_xor, Result, Ok, Err, IfOk, arith, shl_exact, get_or-set_same, get_or-take, get_or-drop, length-take, length-drop}
+use native.Mathlib.Decide.{dec_lt}
+use lib.Seq.{take-length}
+use Rattle.std.proofs.lemmas.Nat.Bits.{bit_at_xor, bit_at-pow_same, bit_at-pow_other}
+use Rattle.maxatom.specs.Rule.{time_at, eq_z}
+use Rattle.maxatom.specs.Clauses.{In, Clause, arms_of, arm_at, Keeps}
+use Rattle.maxatom.specs.declared.Arm.{Arm}
+use Rattle.maxatom.specs.Passes.{Walk}
+use Rattle.maxatom.proofs.Choose.{clash}
+use Rattle.maxatom.proofs.Integers.{by_test_not, eq_true, true_eq}
+use Rattle.maxatom.proofs.Lists.{each_in, set_at, at_in, in_at}
+use Rattle.maxatom.proofs.Walks.{Targets, Still, walk_low, still_kept, kept_still}
+use Rattle.clauses.specs.Bits.{HasBlock}
+use Rattle.clauses.specs.Passes.{Noted, PassEnds}
+use Rattle.clauses.specs.declared.passing.Pass.{Pass}
+use Rattle.clauses.specs.declared.passing.Stop.{Stop}
+use Rattle.clauses.proofs.Passes.{or_left, or_right}
+use Rattle.run.specs.Blocks.{ReadBefore, Reads, Settled}
 
 -- the word with one bit, as the machine shifts it
 pub bit_word : (k : ℕ) → k < 64 → 1 * 2 ^ k % 2 ^ 64 ≡ 2 ^ k
 bit_word k h = shl_exact {a = 1} 1 k 64 (omega arith) (omega arith) ∙ omega arith
 
-pub xor_other : (a k : ℕ) {b : ℕ} → (b ≡ k → ⊥) → Marked a b → Marked (bit_xor a (2 ^ k)) b
+pub xor_other : (a k : ℕ) {b : ℕ} → (b ≡ k → ⊥) → HasBlock a b → HasBlock (bit_xor a (2 ^ k)) b
 xor_other a k {b = b} h m = record { set = omega (arith, m.set, bit_at-pow_other k b h, bit_at_xor a (2 ^ k) b) }
 
--- one more block marked in a job's word
-record Marking (words : List ℕ) (job block : ℕ) (words' : List ℕ) : Type 0 where
-  pub size : length words' ≡ length words
-  pub kept : (q b : ℕ) → Marked (get_or words q 0) b → Marked (get_or words' q 0) b
-  pub new : Marked (get_or words' job 0) block
-
-marking : (words : List ℕ) (job block : ℕ) → job < length words → Marking words job block (set words job (bit_or (get_or words job 0) (2 ^ block)))
-marking words job block h =
-    record {
-      size = length-set words job (bit_or (get_or words job 0) (2 ^ block));
-      kept = λ q b m. keep q b m (ℕ_discrete q job);
-      new = rw (get_or-set_same words job (bit_or (get_or words job 0) (2 ^ block)) 0 h) (or_right (get_or words job 0) (2 ^ block) (record { set = bit_at-pow_same block }));
-    }
-  where
-    keep : (q b : ℕ) → Marked (get_or words q 0) b → Dec (q ≡ job) → Marked (get_or (set words job (bit_or (get_or words job 0) (2 ^ block))) q 0) b
-    keep q b m (yes e) =
-        subst (λ (n : ℕ). Marked (get_or (set words job (bit_or (get_or words job 0) (2 ^ block))) n 0) b) (sym e)
-        (rw (get_or-set_same words job (bit_or (get_or words job 0) (2 ^ block)) 0 h) (or_left (get_or words job 0) (2 ^ block) (subst (λ (n : ℕ). Marked (get_or words n 0) b) e m)))
-    keep q b m (no e) = rw (get_or-set_other words job q (bit_or (get_or words job 0) (2 ^ block)) 0 e) m
-
--- the words of the first i rules
-pub record Indexing (rules : List Rule) (size : ℕ) (words : List ℕ) (i : ℕ) : Type 0 where
-  pub sized : length words ≡ size
-  pub first : (j : ℕ) → j < i → Marked (get_or words (rule_at rules j).x 0) (j / 16)
-  pub second : (j : ℕ) → j < i → Marked (get_or words (rule_at rules j).y 0) (j / 16)
-
--- a word with one more bit, written back
+-- one bit more in the word of a job
 abbrev pub with_bit : List ℕ → ℕ → ℕ → List ℕ
-with_bit words job bit = set words job (bit_or (get_or words job 0) bit)
+with_bit readers job bit = set readers job (bit_or (get_or readers job 0) bit)
 
-pub indexing_next : {rules : List Rule} {size : ℕ} {words : List ℕ} {i bit : ℕ} → Indexing rules size words i → (rule_at rules i).x < size → (rule_at rules i).y < size → bit ≡ 2 ^ (i / 16) →
-    Indexing rules size (with_bit (with_bit words (rule_at rules i).x bit) (rule_at rules i).y bit) (i + 1)
-indexing_next {rules = rules} {size = size} {words = words} {i = i} g hx hy e =
-    let a = marking words (rule_at rules i).x (i / 16) (omega (arith, g.sized)) in
-    let b = marking (with_bit words (rule_at rules i).x (2 ^ (i / 16))) (rule_at rules i).y (i / 16) (omega (arith, g.sized, a.size)) in
-    rw e
-    (record {
-      sized = b.size ∙ (a.size ∙ g.sized);
-      first = below_more _ i (λ j h. b.kept _ _ (a.kept _ _ (g.first j h))) (b.kept _ _ a.new);
-      second = below_more _ i (λ j h. b.kept _ _ (a.kept _ _ (g.second j h))) b.new;
-    })
+module _ (readers : List ℕ) (job bit : ℕ) where
+  pub bit_kept : (q : ℕ) {b : ℕ} → HasBlock (get_or readers q 0) b → HasBlock (get_or (with_bit readers job bit) q 0) b
+  bit_kept q {b = b} m =
+      set_at (λ (w : ℕ). HasBlock w b) readers 0 job q (bit_or (get_or readers job 0) bit) m (λ e. or_left (get_or readers job 0) bit (subst (λ (n : ℕ). HasBlock (get_or readers n 0) b) (sym e) m))
 
-pub indexed : {rules : List Rule} {size : ℕ} {words : List ℕ} {i : ℕ} → Indexing rules size words i → length rules ≤ i → ((j : ℕ) → j < length rules → (rule_at rules j).z < size) → Reads rules words
-indexed g h named =
-    record { first = λ j l. g.first j (omega arith); second = λ j l. g.second j (omega arith); lowered = λ j l. omega (arith, named j l, g.sized) }
+  pub bit_new : (block : ℕ) → job < length readers → bit ≡ 2 ^ block → HasBlock (get_or (with_bit readers job bit) job 0) block
+  bit_new block h e =
+      rw (get_or-set_same readers job (bit_or (get_or readers job 0) bit) 0 h) (or_right (get_or readers job 0) bit (rw e (record { set = bit_at-pow_same block })))
 
--- a rule that does not read the lowered job, and is satisfied or stepped on, is satisfied after the step
-module _ (r : Rule) (times : List ℤ) (z : ℕ) (v : ℤ) (p : r.x ≡ z → ⊥) (q : r.y ≡ z → ⊥) where
-  left_same : left_side r (set times z v) ≡ left_side r times
-  unfolding left_side
-  left_same = rw (get_or-set_other times z r.x v (pos 0) p, get_or-set_other times z r.y v (pos 0) q) refl
+module _ {cs : List Clause} {readers : List ℕ} {n : ℕ} (r : ReadBefore n cs readers) where
+  pub read_kept : (job bit : ℕ) → ReadBefore n cs (with_bit readers job bit)
+  read_kept job bit = record { has = λ c i h a among. bit_kept readers job bit a.job (r.has c i h a among) }
 
-  still_kept : v ≤ℤ time_at times z → satisfied r times ≡ true → satisfied r (set times z v) ≡ true
-  unfolding satisfied
-  still_kept low kept =
-      rw left_same (true_le (set_time (λ (t : ℤ). t ≤ℤ left_side r times) times z r.z v (le_true kept) (λ e. ≤ℤ-trans low (subst (λ (n : ℕ). time_at times n ≤ℤ left_side r times) (sym e) (le_true kept)))))
+  -- one clause more, where the words of its arms' jobs have the bit of its block
+  pub read_more : (d : Clause) → ((c : Clause) → get_or cs n c ≡ d) → ((j : ℕ) → j < length (arms_of d) → HasBlock (get_or readers (arm_at d j).job 0) (n / 16)) → ReadBefore (n + 1) cs readers
+  read_more d is has = record { has = λ c i h a among. go c i h a among (dec_lt i n) }
+    where
+      go : (c : Clause) (i : ℕ) → i < n + 1 → (a : Arm) → In a (arms_of (get_or cs i c)) → Dec (i < n) → HasBlock (get_or readers a.job 0) (i / 16)
+      go c i h a among (yes l) = r.has c i l a among
+      go c i h a among (no l) =
+          let e : n ≡ i = omega arith in
+          let place = in_at d.first (subst (λ (x : Clause). In a (arms_of x)) (subst (λ (m : ℕ). get_or cs m c ≡ d) e (is c)) among) in
+          subst (λ (m : ℕ). HasBlock (get_or readers a.job 0) (m / 16)) e (subst (λ (x : Arm). HasBlock (get_or readers x.job 0) (n / 16)) place.2 (has place.0 place.1))
 
-  now_kept : r.z ≡ z → v ≡ left_side r times → z < length times → satisfied r (set times z v) ≡ true
-  unfolding satisfied
-  now_kept e f h =
-      let same : time_at (set times z v) r.z ≡ left_side r times = ap (λ (n : ℕ). time_at (set times z v) n) e ∙ (get_or-set_same times z v (pos 0) h ∙ f) in
-      rw (left_same, same) (true_le {a = left_side r times} {b = left_side r times} (le_make (omega arith)))
+same_time : (s t : ℤ) → ((s ≡ t → ⊥) → ⊥) → s ≡ t
+same_time s t h = eq_true s t (by_test_not (eq_z s t) (λ e. h (λ q. clash (true_eq s t q) e)))
 
--- before i, and from `to` on, every violated rule is in a marked block
-module _ {rules : List Rule} {times : List ℤ} {marked i to : ℕ} (s : Settled rules times marked i to) where
-  abbrev rule : Rule
-  rule = rule_at rules i
+-- a clause of a stretch
+in_stretch : (cs : List Clause) (from n i : ℕ) (c : Clause) → from ≤ i → i < from + n → i < length cs → In (get_or cs i c) (take n (drop from cs))
+in_stretch cs from n i c low high h =
+    subst (λ (x : Clause). In x (take n (drop from cs)))
+    (get_or-take n (drop from cs) (i - from) c (omega arith) ∙ (get_or-drop from cs (i - from) c ∙ ap (λ (m : ℕ). get_or cs m c) (omega arith)))
+    (at_in (take n (drop from cs)) (i - from) c (omega (arith, length-take n (drop from cs), length-drop from cs)))
 
-  pub settled_kept : satisfied rule times ≡ true → Settled rules times marked (i + 1) to
-  settled_kept kept =
+module _ (floor : ℤ) {cs : List Clause} {readers : List ℕ} (b b' : List ℤ) (before : ℕ) (reads : Reads cs readers) (targets : Targets b cs) where
+  -- after a pass over a stretch of the clauses, a clause whose block has no bit is kept: no job of its arms changed, and it was passed over,
+  -- or it was kept before
+  pub settle : {after k : ℕ} → Noted readers b b' before after → (from n : ℕ) → Walk floor (take n (drop from cs)) b b' k →
+      ((c : Clause) (i : ℕ) → i < length cs → (i < from) ⊎ (from + n ≤ i) → (HasBlock before (i / 16) → ⊥) → Keeps (time_at b) (get_or cs i c)) → Settled cs b' after
+  settle {after = after} noted from n w outside =
       record {
-        before = λ j h l v. below j h l v (dec_lt j i);
-        after = s.after;
+        kept = λ c i h clean. go c i h clean (λ a among. same_time _ _ (λ changed. clean (noted.read a.job (i / 16) changed (reads.has c i h a among)))) (dec_lt i from) (dec_lt i (from + n));
       }
     where
-      below : (j : ℕ) → j < i + 1 → j < length rules → satisfied (rule_at rules j) times ≡ false → Dec (j < i) → Marked marked (j / 16)
-      below j h l v (yes m) = s.before j m l v
-      below j h l v (no m) = absurd (true≢false (sym kept ∙ (ap (λ (n : ℕ). satisfied (rule_at rules n) times) (omega arith) ∙ v)))
+      go : (c : Clause) (i : ℕ) → i < length cs → (HasBlock after (i / 16) → ⊥) → Still b b' (get_or cs i c) → Dec (i < from) → Dec (i < from + n) → Keeps (time_at b') (get_or cs i c)
+      go c i h clean still (no low) (yes high) =
+          still_kept w (in_stretch cs from n i c (omega arith) high h) (each_in (λ (x : Clause). x.target < length b) cs targets (at_in cs i c h)) still
+      go c i h clean still (yes low) high = kept_still b b' (get_or cs i c) (outside c i h (inl low) (λ m. clean (noted.stay (i / 16) m))) (walk_low w) still
+      go c i h clean still (no low) (no high) = kept_still b b' (get_or cs i c) (outside c i h (inr (omega arith)) (λ m. clean (noted.stay (i / 16) m))) (walk_low w) still
 
-  module _ {words : List ℕ} (reads : Reads rules words) (violated : satisfied rule times ≡ false) (named : rule.z < length times) where
-    abbrev left : ℤ
-    left = left_side rule times
-
-    low : left ≤ℤ time_at times rule.z
-    unfolding satisfied
-    low = le_make (omega (arith, lt_read (le_false (time_at times rule.z) left violated)))
-
-    -- a rule that reads the lowered job is in a block that is now marked
-    read_or : (j : ℕ) → j < length rules → (satisfied (rule_at rules j) times ≡ false → (j ≡ i → ⊥) → Marked marked (j / 16)) →
-        satisfied (rule_at rules j) (set times rule.z left) ≡ false → Marked (bit_or marked (get_or words rule.z 0)) (j / 16)
-    read_or j l was v = go (ℕ_discrete (rule_at rules j).x rule.z) (ℕ_discrete (rule_at rules j).y rule.z) (ℕ_discrete j i)
-      where
-        go : Dec ((rule_at rules j).x ≡ rule.z) → Dec ((rule_at rules j).y ≡ rule.z) → Dec (j ≡ i) → Marked (bit_or marked (get_or words rule.z 0)) (j / 16)
-        go (yes e) m k = or_right marked (get_or words rule.z 0) (subst (λ (n : ℕ). Marked (get_or words n 0) (j / 16)) e (reads.first j l))
-        go (no n) (yes e) k = or_right marked (get_or words rule.z 0) (subst (λ (n : ℕ). Marked (get_or words n 0) (j / 16)) e (reads.second j l))
-        go (no n) (no m) (yes e) =
-            absurd (true≢false (sym (now_kept (rule_at rules j) times rule.z left n m (ap (λ (q : ℕ). (rule_at rules q).z) e) (ap (λ (q : ℕ). left_side (rule_at rules q) times) (sym e)) named) ∙ v))
-        go (no n) (no m) (no k) =
-            or_left marked (get_or words rule.z 0)
-            (was (by_test _ (λ kept. true≢false (sym (still_kept (rule_at rules j) times rule.z left n m low kept) ∙ v))) k)
-
-    pub settled_low : {times' : List ℤ} → times' ≡ set times rule.z left → Settled rules times' (bit_or marked (get_or words rule.z 0)) (i + 1) to
-    settled_low e =
-        rw e
-        (record {
-          before = λ j h l v. read_or j l (λ w k. s.before j (omega arith) l w) v;
-          after = λ j h l v. read_or j l (λ w k. s.after j h l w) v;
-        })
-
--- all rules
-pub settled_none : {rules : List Rule} {times : List ℤ} {marked to : ℕ} → length rules ≤ to → Settled rules times marked 0 to
-settled_none h = record { before = λ j m l v. absurd (omega arith); after = λ j m l v. absurd (omega arith) }
-
-pub settled_all : {rules : List Rule} {times : List ℤ} {marked to : ℕ} → Settled rules times marked to to → Settled rules times marked 0 0
-settled_all {rules = rules} {times = times} {marked = marked} {to = to} s = record { before = λ j m l v. absurd (omega arith); after = λ j m l v. go j l v (dec_lt j to) }
-  where
-    go : (j : ℕ) → j < length rules → satisfied (rule_at rules j) times ≡ false → Dec (j < to) → Marked marked (j / 16)
-    go j l v (yes h) = s.before j h l v
-    go j l v (no h) = s.after j (omega arith) l v
-
--- a block, about to be looked at, needs no mark
-pub settled_block : {rules : List Rule} {times : List ℤ} {marked marked' block : ℕ} → Settled rules times marked 0 0 → ((b : ℕ) → (b ≡ block → ⊥) → Marked marked b → Marked marked' b) →
-    Settled rules times marked' (block * 16) (min (block * 16 + 16) (length rules))
-settled_block s keeps =
-    record {
-      before = λ j h l v. keeps (j / 16) (λ e. omega arith) (s.after j (omega arith) l v);
-      after = λ j h l v. keeps (j / 16) (λ e. omega arith) (s.after j (omega arith) l v);
-    }
-
--- the rules of a block without a mark are satisfied
-pub settled_kept_block : {rules : List Rule} {times : List ℤ} {marked block : ℕ} → Settled rules times marked 0 0 → (Marked marked block → ⊥) →
-    (j : ℕ) → block * 16 ≤ j → j < min (block * 16 + 16) (length rules) → satisfied (rule_at rules j) times ≡ true
-settled_kept_block {marked = marked} {block = block} s clear j low high =
-    by_test_not _ (λ v. clear (subst (λ (b : ℕ). Marked marked b) (omega arith) (s.after j (omega arith) (omega arith) v)))
+  -- and after one over all of them
+  pub pass_settled : (steps : ℕ) (r : Result Pass Stop) → PassEnds floor cs b steps b' r → IfOk r (λ p. Noted readers b b' before p.dirty) → IfOk r (λ p. Settled cs b' p.dirty)
+  pass_settled steps (Ok p) w noted =
+      settle noted 0 (length cs) (subst (λ (l : List Clause). Walk floor l b b' w.made) (sym (take-length cs)) w.walk)
+      (λ c i h out clean. ⊎_elim (λ low. absurd (omega arith)) (λ high. absurd (omega arith)) out)
+  pass_settled steps (Err e) w noted = tt

@@ -1,20 +1,19 @@
--- Blocks of 16 rules, a bit of a word each.
-use Rattle.std.specs.Prelude.{◌≡◌, false, List, ℕ, ◌<◌, ◌≤◌, ◌/◌, ◌%◌, ◌^◌, length, get_or, ℤ}
-use Rattle.maxatom.specs.Rule.{satisfied}
-use Rattle.maxatom.specs.declared.Rule.{Rule}
-use Rattle.derivation.specs.Step.{rule_at}
+-- Blocks of 16 clauses, a bit of a word each.
+use Rattle.std.specs.Prelude.{List, ℕ, ◌<◌, ◌/◌, length, get_or, ℤ}
+use Rattle.maxatom.specs.Rule.{time_at}
+use Rattle.maxatom.specs.Clauses.{In, Clause, arms_of, Keeps}
+use Rattle.maxatom.specs.declared.Arm.{Arm}
+use Rattle.clauses.specs.Bits.{HasBlock}
 
--- a block's bit is set
-pub record Marked (word block : ℕ) : Type 0 where
-  pub set : word / 2 ^ block % 2 ≡ 1
+-- the words of the jobs of a clause's arms have the bit of the clause's block, for each clause before a number; past the list's end any
+-- clause stands for one
+pub record ReadBefore (count : ℕ) (cs : List Clause) (readers : List ℕ) : Type 0 where
+  pub has : (c : Clause) (i : ℕ) → i < count → (a : Arm) → In a (arms_of (get_or cs i c)) → HasBlock (get_or readers a.job 0) (i / 16)
 
--- each job's word marks the blocks of the rules that read it, and each job that a rule lowers has one
-pub record Reads (rules : List Rule) (words : List ℕ) : Type 0 where
-  pub first : (j : ℕ) → j < length rules → Marked (get_or words (rule_at rules j).x 0) (j / 16)
-  pub second : (j : ℕ) → j < length rules → Marked (get_or words (rule_at rules j).y 0) (j / 16)
-  pub lowered : (j : ℕ) → j < length rules → (rule_at rules j).z < length words
+-- each job's word has the bits of the blocks whose clauses read it
+abbrev pub Reads : List Clause → List ℕ → Type 0
+Reads cs readers = ReadBefore (length cs) cs readers
 
--- a violated rule, before one or from another on, is in a marked block
-pub record Settled (rules : List Rule) (times : List ℤ) (marked from to : ℕ) : Type 0 where
-  pub before : (j : ℕ) → j < from → j < length rules → satisfied (rule_at rules j) times ≡ false → Marked marked (j / 16)
-  pub after : (j : ℕ) → to ≤ j → j < length rules → satisfied (rule_at rules j) times ≡ false → Marked marked (j / 16)
+-- the clauses of blocks that are not dirty are kept
+pub record Settled (cs : List Clause) (times : List ℤ) (dirty : ℕ) : Type 0 where
+  pub kept : (c : Clause) (i : ℕ) → i < length cs → (HasBlock dirty (i / 16) → ⊥) → Keeps (time_at times) (get_or cs i c)

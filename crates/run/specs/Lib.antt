@@ -1,2 +1,2 @@
 pub mod Blocks
-pub mod Passing
+pub mod Running

@@ -1,35 +1,38 @@
-// Blocks of 16 rules, a bit each in one word: a block is marked where one of its rules may be violated. A satisfied rule stays so until
-// its x or y is lowered.
-ghost use Rattle.std.specs.Prelude.{◌≡◌, true, ℕ, ◌<◌, ◌≤◌, length};
-ghost use Rattle.solver.specs.Rules.{NamedAll};
-ghost use Rattle.run.specs.Blocks.{Marked, Reads};
+// Blocks of 16 clauses, a bit each in one word: a block is dirty where one of its clauses may be violated. A satisfied clause stays so
+// until the job of one of its arms is lowered.
+ghost use Rattle.std.specs.Prelude.{◌≡◌, true, ℕ, ◌<◌, ◌≤◌, length, map};
+ghost use Rattle.maxatom.specs.Book.{Each};
+ghost use Rattle.maxatom.specs.Clauses.{InJobs};
+ghost use Rattle.clauses.specs.Bits.{HasBlock};
+ghost use Rattle.run.specs.Blocks.{Reads};
 
-use maxatom::Rule;
+use clauses::AsClause;
 
-pub fn is_marked(word: u64, block: usize) -> bool
+pub fn is_dirty(word: u64, block: usize) -> bool
     requires { block < 64 }
-    ensures { Marked word block → result ≡ true }
+    ensures { HasBlock word block → result ≡ true }
 {
     (word >> block) % 2 == 1
 }
 
-// The word without the mark of a block that has one.
-pub fn unmarked(word: u64, block: usize) -> u64
+// The word without the bit of a block that has one.
+pub fn cleaned(word: u64, block: usize) -> u64
     requires { block < 64 }
-    ensures { (b : ℕ) → (b ≡ block → ⊥) → Marked word b → Marked result b }
+    ensures { (b : ℕ) → (b ≡ block → ⊥) → HasBlock word b → HasBlock result b }
 {
     word ^ (1 << block)
 }
 
-// Adds to each job's word the blocks of the rules that read the job. The words are lent: an array handed back is copied twice on its way.
-pub fn index(rules: &[Rule], words: &mut [u64; 256])
-    requires count_bound { length rules.now ≤ 1024 }
-    requires named_all { NamedAll rules.now 256 256 }
-    ensures { Reads rules.now words.new }
+// Adds to each job's word the blocks of the clauses that read the job. The words are lent: an array handed back is copied twice on its way.
+pub fn index<C: AsClause>(clauses: &[C], readers: &mut [u64; 256])
+    requires count_bound { length clauses.now ≤ 1024 }
+    requires in_jobs { Each (InJobs 256) (map C.clause clauses.now) }
+    ensures { Reads (map C.clause clauses.now) readers.new }
 {
-    for (i, r) in rules.iter().enumerate() {
+    for (i, c) in clauses.iter().enumerate() {
         let bit = 1 << (i / 16);
-        words[r.x as usize] |= bit;
-        words[r.y as usize] |= bit;
+        for j in 0..c.arm_count() {
+            readers[c.arm(j).job as usize] |= bit;
+        }
     }
 }

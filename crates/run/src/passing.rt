@@ -1,126 +1,112 @@
-// One pass over the rules: all of them, or those in blocks that are marked.
-ghost use Rattle.std.specs.Prelude.{◌≡◌, ◌≤◌, length, IfOk};
+// One pass of a run: over all clauses, or over those in dirty blocks.
+ghost use Rattle.std.specs.Prelude.{◌≡◌, ℕ, ◌+◌, ◌<◌, ◌≤◌, ◌^◌, length, map, get_or, IfOk};
 ghost use Rattle.std.specs.Option.{ForSome};
-ghost use Rattle.maxatom.specs.Book.{floor};
-ghost use Rattle.derivation.specs.Run.{pass};
+ghost use Rattle.maxatom.specs.Clauses.{Clause};
+ghost use Rattle.clauses.specs.Passes.{InTimes, PassEnds};
 ghost use Rattle.run.specs.Blocks.{Reads, Settled};
-ghost use Rattle.run.specs.Passing.{run_of, Running, Parted};
+ghost use Rattle.run.specs.Running.{Runnable, LastStep, PassMade};
 
-use crate::blocks::{is_marked, unmarked};
-use crate::book::Book;
-use jump::weighed;
-use solver::{is_satisfied, lower};
+use crate::blocks::{cleaned, is_dirty};
+use clauses::{AsClause, Pass, Stop, new_pass, pass_over};
 
-// What a pass, or a part of one, made: the steps so far; the blocks that are marked; the last rule stepped on; and a sum of the minutes
-// taken off, weighed by the rules.
-#[derive(Clone, Copy)]
-pub struct Pass {
-    pub steps: u64,
-    pub marked: u64,
-    pub last: usize,
-    pub minutes: u64,
-}
-
-// A job fell below the floor: the steps of the run up to there, and the job.
+// A job fell below the floor: the steps of the run with the last one, and the job.
 #[derive(Clone, Copy)]
 pub struct Fall {
     pub steps: u64,
     pub job: u16,
 }
 
-// The rules of a pass from one to before another: a step on each violated one, and an end at once when a time falls below the floor.
-// Where each job's blocks are lent, a step marks those of its job, and is noted.
-fn part(
-    book: Book,
-    from: usize,
-    to: usize,
-    words: Option<&[u64]>,
+// A pass over the dirty blocks: the clauses of the others are satisfied. The pass that it begins with has the blocks that are dirty.
+fn pass_dirty<C: AsClause>(
+    clauses: &[C],
+    floor: i32,
+    readers: &[u64],
     start: Pass,
     times: &mut [i32],
-) -> Result<Pass, Fall>
-    requires from_le_to { (from ≤ to) × (to ≤ length book.rules.now) }
-    requires running { Running (length times.old) book.rules.now times.old start.steps }
-    requires reads { ForSome words (λ w. Reads book.rules.now w.now) }
-    ensures parted { Parted book.entry.rules.now from to times.old start.steps times.new result }
-    ensures settled { ForSome words.entry (λ w. IfOk result (λ p. Settled book.entry.rules.now times.old start.marked from to → Settled book.entry.rules.now times.new p.marked to to)) }
+) -> Result<Pass, Stop>
+    requires in_times { InTimes (map C.clause clauses.now) times.old }
+    requires sizes { (length clauses.now ≤ 1024) × (length times.old ≤ length readers.now) × (start.steps ≤ 2 ^ 62) }
+    requires reads { Reads (map C.clause clauses.now) readers.now }
+    requires settled { Settled (map C.clause clauses.now) times.old start.dirty }
+    ensures ends { PassEnds floor (map C.clause clauses.now) times.old start.steps times.new result }
+    ensures settled_after { IfOk result (λ p. Settled (map C.clause clauses.now) times.new p.dirty) }
 {
-    let mut p = start;
-    // By number, and over no iterator of rules: the number is noted, and the part begins at any rule.
-    for i in from..to {
-        let r = book.rules[i];
-        if !is_satisfied(r, times) {
-            let off = lower(r, times);
-            let z = r.z as usize;
-            p.steps += 1;
-            if times[z] < book.floor {
-                return Err(Fall {
-                    steps: p.steps,
-                    job: r.z,
-                });
-            }
-            if let Some(blocks) = words {
-                p.marked |= blocks[z];
-                p.last = i;
-                p.minutes ^= weighed(off, i);
-            }
-        }
-    }
-    Ok(p)
-}
-
-// A pass over the marked blocks: the rules of the others are satisfied.
-fn pass_marked(
-    book: Book,
-    words: &[u64],
-    marked: u64,
-    steps: u64,
-    times: &mut [i32],
-) -> Result<Pass, Fall>
-    requires running { Running (length times.old) book.rules.now times.old steps }
-    requires reads { Reads book.rules.now words.now }
-    requires settled { Settled book.rules.now times.old marked 0 0 }
-    ensures times_after { run_of result times.new ≡ pass (floor book.entry.rules.now) book.entry.rules.now times.old steps }
-    ensures settled_after { IfOk result (λ p. Settled book.entry.rules.now times.new p.marked 0 0) }
-{
-    let mut p = Pass {
-        steps,
-        marked,
-        last: 0,
-        minutes: 0,
-    };
-    for block in 0..book.rules.len().div_ceil(16) {
-        if is_marked(p.marked, block) {
-            p.marked = unmarked(p.marked, block);
+    let mut pass = start;
+    for block in 0..clauses.len().div_ceil(16) {
+        if is_dirty(pass.dirty, block) {
+            pass.dirty = cleaned(pass.dirty, block);
             let from = block * 16;
-            let to = (from + 16).min(book.rules.len());
-            p = part(book, from, to, Some(words), p, times)?;
+            let to = (from + 16).min(clauses.len());
+            match pass_over(&clauses[from..to], floor, from, Some(readers), pass, times) {
+                Ok(p) => pass = p,
+                Err(low) => {
+                    return Err(Stop {
+                        at: from + low.at,
+                        steps: low.steps,
+                    });
+                }
+            }
         }
     }
-    Ok(p)
+    Ok(pass)
 }
 
-// One pass: over the marked blocks where the marks are handed over, else over all rules, noted where each job's blocks are lent.
-pub fn one_pass(
-    book: Book,
-    words: Option<&[u64]>,
-    marked: Option<u64>,
+// A pass over the dirty blocks where these are handed over, else over all clauses, noted where each job's readers are lent.
+fn pass_needed<C: AsClause>(
+    clauses: &[C],
+    floor: i32,
+    readers: Option<&[u64]>,
+    dirty: Option<u64>,
+    steps: u64,
+    times: &mut [i32],
+) -> Result<Pass, Stop>
+    requires in_times { InTimes (map C.clause clauses.now) times.old }
+    requires sizes { (length clauses.now ≤ 1024) × (steps ≤ 2 ^ 62) }
+    requires reads { ForSome readers (λ r. (length times.old ≤ length r.now) × Reads (map C.clause clauses.now) r.now) }
+    requires settled { ForSome dirty (λ d. Settled (map C.clause clauses.now) times.old d) }
+    ensures ends { PassEnds floor (map C.clause clauses.now) times.old steps times.new result }
+    ensures settled_after { ForSome readers.entry (λ r. IfOk result (λ p. Settled (map C.clause clauses.now) times.new p.dirty)) }
+{
+    if let (Some(r), Some(d)) = (readers, dirty) {
+        return pass_dirty(clauses, floor, r, new_pass(steps, d), times);
+    }
+    pass_over(clauses, floor, 0, readers, new_pass(steps, 0), times)
+}
+
+// Takes the step that takes a job below the floor, the last one of a run.
+fn last_step<C: AsClause>(clauses: &[C], floor: i32, low: Stop, times: &mut [i32]) -> Fall
+    requires runnable { Runnable floor (map C.clause clauses.now) times.old }
+    requires low { (low.at < length clauses.now) × (low.steps < 2 ^ 63) }
+    ensures { (c : Clause) → LastStep (get_or (map C.clause clauses.now) low.at c) times.old times.new low.steps result }
+{
+    let c = clauses[low.at];
+    let z = c.target();
+    let left = c.left_side(times) as i32;
+    times[z as usize] = left;
+    Fall {
+        steps: low.steps + 1,
+        job: z,
+    }
+}
+
+// One pass of a run, with the last step where a job falls: over the dirty blocks where these are handed over, else over all clauses.
+pub fn one_pass<C: AsClause>(
+    clauses: &[C],
+    floor: i32,
+    readers: Option<&[u64]>,
+    dirty: Option<u64>,
     steps: u64,
     times: &mut [i32],
 ) -> Result<Pass, Fall>
-    requires running { Running (length times.old) book.rules.now times.old steps }
-    requires reads { ForSome words (λ w. Reads book.rules.now w.now) }
-    requires settled { ForSome marked (λ m. Settled book.rules.now times.old m 0 0) }
-    ensures times_after { run_of result times.new ≡ pass (floor book.entry.rules.now) book.entry.rules.now times.old steps }
-    ensures settled_after { ForSome words.entry (λ w. IfOk result (λ p. Settled book.entry.rules.now times.new p.marked 0 0)) }
+    requires runnable { Runnable floor (map C.clause clauses.now) times.old }
+    requires steps_bound { steps ≤ 2 ^ 62 }
+    requires reads { ForSome readers (λ r. (length times.old ≤ length r.now) × Reads (map C.clause clauses.now) r.now) }
+    requires settled { ForSome dirty (λ d. Settled (map C.clause clauses.now) times.old d) }
+    ensures pass_made { PassMade floor (map C.clause clauses.now) times.old steps times.new result }
+    ensures settled_after { ForSome readers.entry (λ r. IfOk result (λ p. Settled (map C.clause clauses.now) times.new p.dirty)) }
 {
-    if let (Some(w), Some(m)) = (words, marked) {
-        return pass_marked(book, w, m, steps, times);
+    match pass_needed(clauses, floor, readers, dirty, steps, times) {
+        Ok(p) => Ok(p),
+        Err(low) => Err(last_step(clauses, floor, low, times)),
     }
-    let start = Pass {
-        steps,
-        marked: 0,
-        last: 0,
-        minutes: 0,
-    };
-    part(book, 0, book.rules.len(), words, start, times)
 }

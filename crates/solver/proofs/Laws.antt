@@ -1,47 +1,37 @@
--- The jobs of an accepted table's rules, and the initial assignment. Assumes nothing.
+-- The jobs of an accepted book's rules, and the initial assignment. Assumes nothing.
 use mathlib.Core.Path.{◌≡◌, refl, sym, ap, ◌∙◌}
 use mathlib.Core.Logic.{◌⊎◌, ⊎_elim}
-use mathlib.Core.Bool.{Bool, true, false, cond}
-use mathlib.Core.List.{List}
+use mathlib.Core.Bool.{Bool, true, false}
+use mathlib.Core.List.{List, [], ◌∷◌}
 use Prim.Native.Nat.{ℕ, ◌<◌, ◌≤◌}
-use native.Mathlib.Omega.{arith}
 use lib.ListN.{length, replicate}
 use lib.IntN.{ℤ, pos}
 use borrow.Author.Tests.{le-ltb, lt-ltb, eq-eqb, ne_eqb, eqb-true, eqb-false}
-use lib.Signed.{lt_z}
-use Rattle.std.specs.Int.{int_max}
 use mir.Syntax.{w64}
 use mir.Val.{SFits, of_z, to_z}
 use mir.Facts.{to_z-of_z}
 use lib.Dec.{eqb}
-use Rattle.maxatom.specs.Rule.{max_z, eq_z}
-use Rattle.maxatom.proofs.Integers.{lt_true, lt_false, le_read, lt_read, eq_make, eq_true, true_eq, by_test}
-use Rattle.maxatom.specs.Book.{Accepted, InBook}
+use Rattle.maxatom.specs.Rule.{eq_z}
+use Rattle.maxatom.proofs.Integers.{eq_true, true_eq, by_test}
+use Rattle.maxatom.specs.Book.{Each, Accepted, InBook}
+use Rattle.maxatom.specs.Clauses.{InJobs, clause_of, clauses_of}
 use Rattle.maxatom.specs.declared.Rule.{Rule}
 use Rattle.derivation.specs.Refusals.{Reply, refused, answer, lent, jobs_check, size_check}
 use Rattle.derivation.specs.Step.{rule_at}
 use Rattle.derivation.specs.Calls.{initial_reply, initial_times}
 use Rattle.derivation.proofs.AnyOrder.{each_at}
 use Rattle.derivation.proofs.Checks.{says, skips, accepting}
-use Rattle.solver.specs.Rules.{Named}
 
-module _ (rules : List Rule) (i : ℕ) where
-  pub in_book : {jobs : ℕ} → Accepted jobs rules → i < length rules → InBook jobs (rule_at rules i)
-  in_book {jobs = jobs} a h = each_at (InBook jobs) rules i h a.rules_in
+pub in_book : {jobs : ℕ} (rules : List Rule) (i : ℕ) → Accepted jobs rules → i < length rules → InBook jobs (rule_at rules i)
+in_book {jobs = jobs} rules i a h = each_at (InBook jobs) rules i h a.rules_in
 
-  pub named : {jobs : ℕ} → Accepted jobs rules → i < length rules → Named (rule_at rules i) jobs
-  named a h = let b = in_book a h in record { first = b.first; second = b.second; third = b.third }
+-- the jobs of a rule's clause, and of each clause of a book
+pub in_jobs : (jobs : ℕ) (r : Rule) → InBook jobs r → InJobs jobs (clause_of r)
+in_jobs jobs r b = record { arms = (b.first, (b.second, tt)); target = b.third }
 
--- the library's larger of two is the one of the definitions
-pub max_is : (a b : ℤ) → int_max a b ≡ max_z a b
-unfolding max_z
-max_is a b = by (lt_z a b) (lt_z b a) refl refl
-  where
-    by : (p q : Bool) → lt_z a b ≡ p → lt_z b a ≡ q → int_max a b ≡ cond (lt_z a b) b a
-    by true true e f = absurd (omega (arith, lt_read (lt_true {a = a} {b = b} e), lt_read (lt_true {a = b} {b = a} f)))
-    by true false e f = rw (e, f)
-    by false true e f = rw (e, f)
-    by false false e f = rw (e, f) (eq_make (omega (arith, le_read (lt_false a b e), le_read (lt_false b a f))))
+pub all_in_jobs : (jobs : ℕ) (rules : List Rule) → Each (InBook jobs) rules → Each (InJobs jobs) (clauses_of rules)
+all_in_jobs jobs [] e = tt
+all_in_jobs jobs (r ∷ rules) e = (in_jobs jobs r e.0, all_in_jobs jobs rules e.1)
 
 -- two numbers of 64 bits are one where their bits are
 pub same_bits : (a b : ℤ) → SFits w64 a → SFits w64 b → eqb (of_z w64 a) (of_z w64 b) ≡ eq_z b a

@@ -1,3 +1,4 @@
 pub mod Laws
 pub mod Boards
 pub mod Steps
+pub mod Starting

@@ -20,7 +20,7 @@ use Rattle.maxatom.proofs.Lists.{each_map, each_time}
 use Rattle.derivation.specs.declared.Tally.{Tally}
 use Rattle.derivation.specs.Step.{in_range, below_floor, sum_z, fits}
 use Rattle.derivation.proofs.Reached.{test_high}
-use Rattle.table.proofs.Signed.{fits_make}
+use Rattle.maxatom.proofs.Signed.{fits_make}
 use Rattle.solver.specs.Rules.{Lowerable}
 use Rattle.solver.proofs.Boards.{sum_head}
 

@@ -10,7 +10,7 @@ use derivation::Fault;
 use maxatom::Rule;
 
 // The checks of one rule of a table over `jobs` jobs: its job numbers, then its offset.
-#[tactic(auto, unfolding(crate::specs::Faults::rule_fault, derivation::specs::Refusals::job_outside, derivation::specs::Refusals::offset_outside), using(crate::proofs::Signed::told))]
+#[tactic(auto, unfolding(crate::specs::Faults::rule_fault, derivation::specs::Refusals::job_outside, derivation::specs::Refusals::offset_outside), using(maxatom::proofs::Signed::told))]
 pub fn check_rule(jobs: usize, r: Rule) -> Result<(), Fault>
     ensures { result ≡ rule_fault jobs r }
 {

@@ -1,12 +1,17 @@
-use Rattle.std.proofs.Common.{◌-◌, length}
+use Rattle.std.proofs.Common.{map}
 use Rattle.std.specs.Option.{ForSome}
-use Rattle.derivation.specs.Run.{pass_bound}
+use Rattle.maxatom.specs.Runs.{room}
 use Rattle.run.specs.Blocks.{Settled}
-use Rattle.run.specs.Passing.{Looping}
+use Rattle.run.specs.Running.{Came}
 use Rattle.run.proofs.finish.Given as goal
 
 abbrev pub invariant-loop-p : goal.invariant-loop-p
-invariant-loop-p l = record { looping : Looping (length l.initial.times) l.book.rules.now l.times l.steps; settled : ForSome l.marked (λ m. Settled l.book.rules.now l.times m 0 0) }
+invariant-loop-p g l =
+    let cs = map g.C.AsClause.clause l.clauses in
+    record {
+      came : Came l.floor cs l.fn.times l.times l.fn.start l.steps;
+      settled : ForSome l.dirty (λ d. Settled cs l.times d);
+    }
 
 abbrev pub decreases-loop-p : goal.decreases-loop-p
-decreases-loop-p l = pass_bound (length l.initial.times) l.book.rules.now - l.steps
+decreases-loop-p g l = room l.floor l.times

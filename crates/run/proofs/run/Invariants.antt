@@ -1,6 +1,6 @@
-use Rattle.std.proofs.Common.{length}
-use Rattle.run.specs.Passing.{Looping}
+use Rattle.std.proofs.Common.{map}
+use Rattle.run.specs.Running.{Came}
 use Rattle.run.proofs.run.Given as goal
 
 abbrev pub invariant-loop-i : goal.invariant-loop-i
-invariant-loop-i l = Looping (length l.fn.times) l.book.rules.now l.times l.s
+invariant-loop-i g l = Came l.floor (map g.C.AsClause.clause l.clauses) l.fn.times l.times 0 l.steps

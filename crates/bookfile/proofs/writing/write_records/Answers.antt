@@ -2,7 +2,7 @@ use native.Mathlib.Omega.{arith}
 use mathlib.Core.Path.{◌∙◌}
 use lib.IntN.{pos}
 use lib.ListN.{get_or}
-use Rattle.table.proofs.Signed.{told}
+use Rattle.maxatom.proofs.Signed.{told}
 use Rattle.bookfile.proofs.Plans.{put_next, put_all}
 use Rattle.bookfile.proofs.writing.write_records.Goals as goal
 

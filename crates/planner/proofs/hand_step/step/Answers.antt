@@ -7,7 +7,7 @@ use Rattle.derivation.specs.declared.Fault.TheVariants.{NoSuchRule}
 use Rattle.derivation.specs.Replies.{state_of}
 use Rattle.derivation.specs.Step.{State}
 use Rattle.solver.proofs.Steps.{range_early}
-use Rattle.planner.proofs.Answering.{taken, at_floor, small_sum, few_times, rule_named, step_room, step_refused, step_range, step_tally, step_no_rule, step_low, step_kept, step_done}
+use Rattle.planner.proofs.Answering.{taken, at_floor, small_sum, few_times, rule_in_jobs, step_room, step_refused, step_range, step_tally, step_no_rule, step_low, step_kept, step_done}
 use Rattle.planner.proofs.hand_step.step.Goals as goal
 
 pub returns-in_err-k : goal.returns-in_err-k
@@ -55,7 +55,7 @@ returns-then-below_floor c =
 pub is_satisfied-requires : goal.is_satisfied-requires
 is_satisfied-requires c =
     let (h, r) = taken c.args.rules.now c.get.result _ c.get.ensures.lookup.3 c.in_ok-r.ensures.value in
-    rw r (rule_named _ _ c.args.times.now c.in_ok-k.ensures _ h)
+    rw r (rule_in_jobs _ _ c.args.times.now c.in_ok-k.ensures _ h)
 
 pub returns-then-is_satisfied : goal.returns-then-is_satisfied
 returns-then-is_satisfied c =

@@ -1,6 +1,22 @@
-use Rattle.std.proofs.Common.{arith}
-use Rattle.run.proofs.Parts.{parted_whole}
+use Rattle.std.proofs.Common.{arith, map}
+use mir.Facts.{to_z-of_z}
+use lib.ListN.{length-map}
+use Rattle.std.proofs.lemmas.List.{length-take}
+use Rattle.maxatom.proofs.Walks.{walk_few}
+use Rattle.run.proofs.Underway.{walk_runnable, fell_at}
 use Rattle.run.proofs.passing.one_pass.Goals as goal
 
-pub returns-clause-times_after : goal.returns-clause-times_after
-returns-clause-times_after c = parted_whole c.args.book.rules.now _ c.args.times.now _ c.args.steps c.part.result (omega arith) c.part.ensures.parted
+pub last_step-requires-clause-runnable : goal.last_step-requires-clause-runnable
+last_step-requires-clause-runnable g c = rw (to_z-of_z c.ranges.floor) (walk_runnable c.requires.runnable (rw (to_z-of_z c.ranges.floor) at c.in-Err.ensures.ends.1.walk))
+
+pub last_step-requires-clause-low : goal.last_step-requires-clause-low
+last_step-requires-clause-low g c =
+    let e = c.in-Err.ensures.ends in
+    let cs = map g.C.AsClause.clause c.args.clauses.now in
+    let size = length-map c.args.clauses.now g.C.AsClause.clause in
+    (omega (arith, e.0, size), omega (arith, e.1.counted, walk_few e.1.walk, length-take c.in-Err.low.at cs, c.requires.runnable.short, c.requires.steps_bound))
+
+pub returns-in-Err-clause-pass_made : goal.returns-in-Err-clause-pass_made
+returns-in-Err-clause-pass_made g c =
+    let e = c.in-Err.ensures.ends in
+    rw (to_z-of_z c.ranges.floor) at (fell_at (map g.C.AsClause.clause c.args.clauses.now) c.in-Err.low.at e.0 e.1 e.2 c.last_step.result c.last_step.ensures)

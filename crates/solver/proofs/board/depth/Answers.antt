@@ -3,7 +3,7 @@ use mir.Facts.{to_z-of_z}
 use mir.Syntax.{w32}
 use mir.Val.{SFits}
 use Rattle.maxatom.specs.Rule.{time_at}
-use Rattle.table.proofs.Signed.{abs_fits}
+use Rattle.maxatom.proofs.Signed.{abs_fits}
 use Rattle.solver.proofs.Boards.{summed_next, summed_all}
 use Rattle.solver.proofs.board.depth.Goals as goal
 

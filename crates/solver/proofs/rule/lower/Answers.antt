@@ -4,7 +4,7 @@ use mir.Facts.{to_z-of_z}
 use mir.Syntax.{w32, w64}
 use mir.Val.{SFits}
 use Rattle.maxatom.specs.Rule.{time_at, left_side, minutes_off}
-use Rattle.table.proofs.Signed.{fits_read, sub_fits}
+use Rattle.maxatom.proofs.Signed.{fits_read, sub_fits}
 use Rattle.solver.proofs.rule.lower.Goals as goal
 
 pub returns-clause-value : goal.returns-clause-value

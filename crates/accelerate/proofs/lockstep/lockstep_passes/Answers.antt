@@ -1,0 +1,14 @@
+use Rattle.std.proofs.Common.{arith}
+use Rattle.maxatom.specs.Passes.{start, round}
+use Rattle.accelerate.proofs.lockstep.lockstep_passes.Goals as goal
+
+pub loop-i-init : goal.loop-i-init
+loop-i-init g c = record { few = omega arith; some = omega arith; passing = start }
+
+pub loop-i-preserved : goal.loop-i-preserved
+loop-i-preserved g c =
+    record {
+      few = omega arith;
+      some = omega (arith, c.loop-i.invariant.some);
+      passing = round c.loop-i.invariant.passing c.in_ok-made.ensures c.if-made-lt1.false;
+    }

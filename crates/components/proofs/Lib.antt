@@ -1,0 +1,2 @@
+pub mod Advances
+pub mod Merging

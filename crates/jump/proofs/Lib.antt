@@ -1,2 +1,0 @@
-pub mod Jumping
-pub mod Taking

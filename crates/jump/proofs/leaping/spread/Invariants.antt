@@ -1,7 +1,0 @@
-use Rattle.std.proofs.Common.{◌≡◌, length, ◌*◌, pos, ◌+ℤ◌, get_or}
-use Rattle.maxatom.specs.Rule.{time_at}
-use Rattle.jump.proofs.Jumping.{Filled}
-use Rattle.jump.proofs.leaping.spread.Given as goal
-
-abbrev pub invariant-loop-i : goal.invariant-loop-i
-invariant-loop-i l = Filled (λ job v. time_at l.times job ≡ v +ℤ pos (l.t * get_or l.drops job 0)) (length l.times) l.far l.i

@@ -1,4 +1,0 @@
-pub mod Leftovers
-pub mod Allowing
-pub mod Advances
-pub mod Sides

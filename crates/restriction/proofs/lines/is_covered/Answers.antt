@@ -1,0 +1,13 @@
+use Rattle.std.proofs.Common.{refl, arith}
+use Rattle.clauses.proofs.Arms.{arm_in}
+use Rattle.restriction.proofs.lines.is_covered.Goals as goal
+
+pub returns-then-above : goal.returns-then-above
+returns-then-above g c e =
+    let cl = g.C.AsClause.clause c.args.c.now in
+    record {
+      arm = c.arm-high.result;
+      within = rw c.arm-high.ensures (arm_in cl c.loop-i.i (omega (arith, c.arm_count-i-end.ensures, c.loop-i-test.true)));
+      is_own = rw c.is_own.ensures at c.if-is_own.true;
+      above = c.if-above.ensures refl;
+    }
