@@ -20,7 +20,7 @@ pub record Dropped (t : ℕ) (drops : List ℕ) (times near far : List ℤ) : Ty
   pub near_is : (job : ℕ) → job < length times → time_at times job ≡ time_at near job +ℤ pos (get_or drops job 0)
   pub far_is : (job : ℕ) → job < length times → time_at times job ≡ time_at far job +ℤ pos ((t + 1) * get_or drops job 0)
 
--- passes, each with a step and without an end
+-- passes, each with a step and without a fall
 pub record PassesMade (cs : List Clause) (floor : ℤ) (times times' : List ℤ) (steps : ℕ) : Type 0 where
   pub passes : ℕ
   pub passing : Passing floor cs 1 times times' passes steps

@@ -10,3 +10,4 @@ pub mod Determined
 pub mod Stretches
 pub mod Tables
 pub mod Files
+pub mod Refusing

@@ -2,7 +2,7 @@
 use mathlib.Core.Path.{◌≡◌, refl, sym, ap, ◌∙◌}
 use mathlib.Core.Bool.{false}
 use mathlib.Core.List.{List, []}
-use Prim.Native.Nat.{ℕ, zero, suc, ◌+◌, ◌-◌, ◌<◌, ◌≤◌}
+use Prim.Native.Nat.{ℕ, suc, ◌+◌, ◌-◌, ◌<◌, ◌≤◌}
 use native.Mathlib.Omega.{arith}
 use borrow.Author.Tests.{le-leb, lt-leb, ltb-false, leb-false}
 use lib.ListN.{length}
@@ -47,13 +47,11 @@ module _ (jobs : ℕ) (file : List ℕ) (count at : ℕ) where
       let e : 1025 - count ≡ suc (1025 - (count + 1)) = omega arith in
       ap (λ (n : ℕ). rules_from n jobs file count at) e ∙ cond_no _ _ (lt-leb (length file) at l)
 
-  pub from_end : length file ≤ at → from ≡ answer []
+  pub from_end : count ≤ 1024 → length file ≤ at → from ≡ answer []
   unfolding rules_from
-  from_end l = go (1025 - count)
-    where
-      go : (n : ℕ) → rules_from n jobs file count at ≡ answer []
-      go zero = refl
-      go (suc n) = cond_yes _ _ (le-leb (length file) at l)
+  from_end h l =
+      let e : 1025 - count ≡ suc (1025 - (count + 1)) = omega arith in
+      ap (λ (n : ℕ). rules_from n jobs file count at) e ∙ cond_yes _ _ (le-leb (length file) at l)
 
 -- rules already counted
 unfoldable pub added : ℕ → Reply Counts → Reply Counts
@@ -101,7 +99,7 @@ module _ {jobs : ℕ} {file : List ℕ} {at count : ℕ} (s : Scanned jobs file 
   unfolding added counted
   scanned_all l =
       let n : count + 0 ≡ count = omega arith in
-      sym (ap (λ (x : Reply (List Entry)). added count (counted jobs x)) (from_end jobs file count at l) ∙ ap (λ (m : ℕ). answer (record { jobs = jobs; rules = m })) n) ∙ s.rest
+      sym (ap (λ (x : Reply (List Entry)). added count (counted jobs x)) (from_end jobs file count at s.few l) ∙ ap (λ (m : ℕ). answer (record { jobs = jobs; rules = m })) n) ∙ s.rest
 
 -- what the code says of the records of rules
 pub ruleset scans = (scanned_none, scanned_not, scanned_all)

@@ -11,7 +11,7 @@ use Rattle.maxatom.specs.Book.{Each}
 use Rattle.derivation.specs.declared.Counts.{Counts}
 use Rattle.maxatom.specs.declared.Rule.{Rule}
 use Rattle.derivation.specs.Refusals.{answer, accepts, Check, rule_checks, table_checks}
-use Rattle.derivation.proofs.Checks.{passed, accepting, accepted_iff}
+use Rattle.derivation.proofs.Checks.{answer_not, passed, accepting, accepted_iff}
 use Rattle.bookfile.specs.Numbers.{word}
 use Rattle.bookfile.specs.Reading.{size_at, record_checks, rule_reply, head_checks, Entry, before, rules_from, entries}
 use Rattle.bookfile.specs.Replies.{file_reply}
@@ -38,7 +38,7 @@ fine_none jobs number count (d ∷ es) h e = absurd (let z : ◌≡◌ {A = List
 
 fine : (most jobs : ℕ) (file : List ℕ) (number count at : ℕ) (es : List Entry) → count ≤ 1024 → rules_from most jobs file count at ≡ answer es → Fine jobs number count es
 unfolding rules_from rule_checks record_checks
-fine zero jobs file number count at es h e = fine_none jobs number count es h e
+fine zero jobs file number count at es h e = absurd (answer_not (sym e))
 fine (suc most) jobs file number count at es h e =
     go (leb (length file) at) (λ others c q. fine most jobs file (number + 1) (count + 1) (at + size_at file at) others c q) e
   where

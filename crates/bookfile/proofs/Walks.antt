@@ -100,7 +100,7 @@ module _ {file : List ℕ} {at i : ℕ} (w : Walked file at i) (h : i < length (
       go : Dec (at < length file) → at < length file
       go (yes l) = l
       go (no l) =
-          let e : answer [] ≡ answer (drop i (entries file)) = sym (from_end (word file 2) file i at (omega arith)) ∙ w.rest in
+          let e : answer [] ≡ answer (drop i (entries file)) = sym (from_end (word file 2) file i at w.few (omega arith)) ∙ w.rest in
           let d : drop i (entries file) ≡ [] = cc in
           absurd (omega (arith, ap length d, length-drop i (entries file)))
 

@@ -84,14 +84,15 @@ before at (refused number place) rest = refused number place
 before at (answer r) (refused number place) = refused number place
 before at (answer r) (answer entries) = answer (record { at = at; rule = r } ∷ entries)
 
--- the rules from byte `at` to the end of the file, `count` rules already read; `most` records are looked at
+-- The rules from byte `at` to the end of the file, with `count` rules already read. The end of the file or a record is looked for at most `most`
+-- times. A reading that comes to no end by then is refused with 5, at the byte where the next record would begin.
 unfoldable pub rules_from : ℕ → ℕ → List ℕ → ℕ → ℕ → Reply (List Entry)
-rules_from zero jobs file count at = answer []
+rules_from zero jobs file count at = refused 5 at
 rules_from (suc most) jobs file count at =
     let rest = rules_from most jobs file (count + 1) (at + size_at file at) in
     cond (leb (length file) at) (answer []) (before at (rule_reply jobs file count at) rest)
 
--- the rules after the first record; the 1,025th record is refused, so no more are looked at
+-- The rules after the first record. 1,025 looks are enough: after 1,024 rules the last one finds the end of the file, or a record that is refused.
 abbrev pub rules_of : List ℕ → Reply (List Entry)
 rules_of file = rules_from 1025 (word file 2) file 0 4
 

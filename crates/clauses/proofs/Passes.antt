@@ -53,10 +53,17 @@ pub fall_item : {A : Type 0} (f : A → Clause) (l : List A) {i : ℕ} (x : A) (
 fall_item f l {i = i} x d {floor = floor} {b = b} h is w = subst (λ (c : Clause). Falls floor c b) (ap f is ∙ sym (get_or-map f l i x d h)) w
 
 -- what the code reads of a clause: its target, its left side in 64 bits, and its target's time
-module _ (b : List ℤ) (c : Clause) {z : ℕ} {left time : ℤ} (target_is : z ≡ c.target) (left_is : left ≡ left_of (time_at b) c) (time_is : time ≡ to_z w32 (of_z w32 (time_at b z)))
-    (left_fits : SFits w64 left) (time_fits : SFits w64 time) (fits : SFits w32 (time_at b z)) where
+pub record Read (b : List ℤ) (c : Clause) (z : ℕ) (left time : ℤ) : Type 0 where
+  pub target_is : z ≡ c.target
+  pub left_is : left ≡ left_of (time_at b) c
+  pub time_is : time ≡ to_z w32 (of_z w32 (time_at b z))
+  pub left_fits : SFits w64 left
+  pub time_fits : SFits w64 time
+  pub fits : SFits w32 (time_at b z)
+
+module _ {b : List ℤ} {c : Clause} {z : ℕ} {left time : ℤ} (r : Read b c z left time) where
   test : {v : Bool} → lt_z (to_z w64 (of_z w64 left)) (to_z w64 (of_z w64 time)) ≡ v → lt_z (left_of (time_at b) c) (time_at b c.target) ≡ v
-  test {v = v} h = subst (λ (n : ℕ). lt_z (left_of (time_at b) c) (time_at b n) ≡ v) target_is (wide_test left_fits time_fits fits left_is time_is h)
+  test {v = v} h = subst (λ (n : ℕ). lt_z (left_of (time_at b) c) (time_at b n) ≡ v) r.target_is (wide_test r.left_fits r.time_fits r.fits r.left_is r.time_is h)
 
   pub read_violated : lt_z (to_z w64 (of_z w64 left)) (to_z w64 (of_z w64 time)) ≡ true → left_of (time_at b) c <ℤ time_at b c.target
   read_violated h = lt_true (test h)
@@ -67,18 +74,18 @@ module _ (b : List ℤ) (c : Clause) {z : ℕ} {left time : ℤ} (target_is : z 
   -- what the code reads of the floor
   module _ {floor low : ℤ} (floor_fits : SFits w32 floor) (low_fits : SFits w64 low) (low_is : low ≡ to_z w32 (of_z w32 floor)) where
     pub read_low : lt_z (to_z w64 (of_z w64 left)) (to_z w64 (of_z w64 low)) ≡ true → left_of (time_at b) c <ℤ floor
-    read_low h = lt_true (wide_test left_fits low_fits floor_fits left_is low_is h)
+    read_low h = lt_true (wide_test r.left_fits low_fits floor_fits r.left_is low_is h)
 
-    pub read_high : lt_z (to_z w64 (of_z w64 left)) (to_z w64 (of_z w64 low)) ≡ false → floor ≤ℤ left_of (time_at b) c
-    read_high h = lt_false (left_of (time_at b) c) floor (wide_test left_fits low_fits floor_fits left_is low_is h)
+    read_high : lt_z (to_z w64 (of_z w64 left)) (to_z w64 (of_z w64 low)) ≡ false → floor ≤ℤ left_of (time_at b) c
+    read_high h = lt_false (left_of (time_at b) c) floor (wide_test r.left_fits low_fits floor_fits r.left_is low_is h)
 
     -- what is stored is the step
-    pub stored : left_of (time_at b) c <ℤ time_at b c.target → floor ≤ℤ left_of (time_at b) c → set b z (to_z w32 (of_z w32 (to_z w64 (of_z w64 left)))) ≡ stepped b c
+    stored : left_of (time_at b) c <ℤ time_at b c.target → floor ≤ℤ left_of (time_at b) c → set b z (to_z w32 (of_z w32 (to_z w64 (of_z w64 left)))) ≡ stepped b c
     stored v up =
-        let wide : to_z w64 (of_z w64 left) ≡ left_of (time_at b) c = to_z-of_z {w = w64} left_fits ∙ left_is in
+        let wide : to_z w64 (of_z w64 left) ≡ left_of (time_at b) c = to_z-of_z {w = w64} r.left_fits ∙ r.left_is in
         let narrow : SFits w32 (left_of (time_at b) c) =
-        fits_between floor_fits fits up (subst (λ (n : ℕ). left_of (time_at b) c ≤ℤ time_at b n) (sym target_is) (le_make (omega (arith, lt_read v)))) in
-        ap (λ (t : ℤ). set b z (to_z w32 (of_z w32 t))) wide ∙ (ap (λ (t : ℤ). set b z t) (to_z-of_z {w = w32} narrow) ∙ ap (λ (n : ℕ). set b n (left_of (time_at b) c)) target_is)
+        fits_between floor_fits r.fits up (subst (λ (n : ℕ). left_of (time_at b) c ≤ℤ time_at b n) (sym r.target_is) (le_make (omega (arith, lt_read v)))) in
+        ap (λ (t : ℤ). set b z (to_z w32 (of_z w32 t))) wide ∙ (ap (λ (t : ℤ). set b z t) (to_z-of_z {w = w32} narrow) ∙ ap (λ (n : ℕ). set b n (left_of (time_at b) c)) r.target_is)
 
 -- a pass that has made nothing
 pub walked_none : (floor : ℤ) (times : List ℤ) (steps : ℕ) → Walked floor [] times times steps steps
@@ -93,10 +100,15 @@ module _ {A : Type 0} (f : A → Clause) (l : List A) {floor : ℤ} {a b : List 
     pub walked_keep : Keeps (time_at b) (f x) → Walked floor (map f (take (i + 1) l)) a b s₀ s
     walked_keep k = rw (more_item f l x h is) (record { made = w.made; counted = w.counted; walk = walk_keep w.walk (f x) k })
 
-    pub walked_lower : left_of (time_at b) (f x) <ℤ time_at b (f x).target → floor ≤ℤ left_of (time_at b) (f x) → {b' : List ℤ} → b' ≡ stepped b (f x) →
-        Walked floor (map f (take (i + 1) l)) a b' s₀ (s + 1)
-    walked_lower v up e =
-        rw (more_item f l x h is, e) (record { made = w.made + 1; counted = omega (arith, w.counted); walk = walk_lower w.walk (f x) v up })
+    -- by the step that the code makes
+    pub walked_lower : {z : ℕ} {left time : ℤ} → Read b (f x) z left time → (low : ℤ) → lt_z (to_z w64 (of_z w64 left)) (to_z w64 (of_z w64 time)) ≡ true →
+        SFits w32 floor → SFits w64 low → low ≡ to_z w32 (of_z w32 floor) → lt_z (to_z w64 (of_z w64 left)) (to_z w64 (of_z w64 low)) ≡ false →
+        Walked floor (map f (take (i + 1) l)) a (set b z (to_z w32 (of_z w32 (to_z w64 (of_z w64 left))))) s₀ (s + 1)
+    walked_lower r low t floor_fits low_fits low_is q =
+        let v = read_violated r t in
+        let up = read_high r floor_fits low_fits low_is q in
+        rw (more_item f l x h is, stored r floor_fits low_fits low_is v up)
+        (record { made = w.made + 1; counted = omega (arith, w.counted); walk = walk_lower w.walk (f x) v up })
 
   -- all clauses
   pub walked_all : length l ≤ i → i ≤ length l → Walked floor (map f l) a b s₀ s

@@ -17,7 +17,7 @@ use Rattle.maxatom.proofs.Choose.{cond_yes, cond_no, clash}
 use Rattle.maxatom.proofs.Integers.{up, dn, le_read, le_make, lt_false, false_lt, abs_parts, one_part}
 use Rattle.derivation.specs.Refusals.{refused, answer, accepts, Check, reply, verdict, table_checks, times_checks, rule_checks, job_outside, offset_outside}
 
-answer_not : {A : Type 0} {a : A} {number place : ℕ} → answer a ≡ refused number place → ⊥
+pub answer_not : {A : Type 0} {a : A} {number place : ℕ} → answer a ≡ refused number place → ⊥
 answer_not e = let z : ◌≡◌ {A = ℕ} 0 1 = cc in omega arith
 
 module _ {A : Type 0} (a : A) where

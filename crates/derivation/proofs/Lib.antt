@@ -1,4 +1,5 @@
 pub mod Checks
+pub mod Refusing
 pub mod Reached
 pub mod AnyOrder
 pub mod Passes

@@ -10,12 +10,14 @@ use lib.ListN.{length, set, drop}
 use lib.IntN.{ℤ}
 use lib.Signed.{◌≤ℤ◌, ◌<ℤ◌, lt_z}
 use borrow.Author.Tests.{eqb-true, eqb-false}
+use Rattle.std.specs.Prelude.{Option, Some, None}
+use Rattle.std.proofs.lemmas.Option.{none-some}
 use Rattle.maxatom.specs.Rule.{time_at, left_side, satisfied}
 use Rattle.maxatom.specs.Book.{Accepted, InBook, AllSatisfied, floor}
 use Rattle.maxatom.specs.declared.Rule.{Rule}
 use Rattle.maxatom.specs.Clauses.{Clause, clause_of, clauses_of}
 use Rattle.maxatom.specs.Clauses as Test
-use Rattle.maxatom.specs.Runs.{End, planned, fell, unfinished, Run, pass, fallen, passes}
+use Rattle.maxatom.specs.Runs.{Pass, pass, End, planned, fell, unfinished, Run, passes}
 use Rattle.maxatom.proofs.Choose.{clash}
 use Rattle.maxatom.proofs.Integers.{le_read, lt_read, lt_true, lt_false, by_test_not}
 use Rattle.maxatom.proofs.Lists.{set_time}
@@ -107,30 +109,27 @@ pub pass_rule : (low : ℤ) (r : Rule) (cs : List Clause) (times : List ℤ) (co
     let lowered = set times r.z (left_side r times) in
     pass low (clause_of r ∷ cs) times count
     ≡ cond (satisfied r times) (pass low cs times count)
-    (cond (lt_z (left_side r times) low) (record { times = lowered; steps = count + 1; end = fell r.z }) (pass low cs lowered (count + 1)))
+    (cond (lt_z (left_side r times) low) (record { times = lowered; steps = count + 1; fallen = Some r.z }) (pass low cs lowered (count + 1)))
 unfolding pass Test.kept satisfied
 pass_rule low r cs times count = rw (left_same r times) refl
 
 -- what a pass over the last rules is, from a state that shows no fall
-pub record PassIs (jobs : ℕ) (rules rest : List Rule) (state : State) (calls : List ℕ) (w : Run) : Type 0 where
+pub record PassIs (jobs : ℕ) (rules rest : List Rule) (state : State) (calls : List ℕ) (w : Pass) : Type 0 where
   pub times_is : (run_through jobs rules state calls).times ≡ w.times
   pub steps_is : (run_through jobs rules state calls).tally.steps ≡ w.steps
   pub more : state.tally.steps ≤ w.steps
   pub still : w.steps ≡ state.tally.steps → AllSatisfied rest state.times × (w.times ≡ state.times)
-  pub above : fallen w.end ≡ false → below_floor (floor rules) w.times ≡ false
-  pub below : fallen w.end ≡ true → below_floor (floor rules) w.times ≡ true
-  pub fell_at : (job : ℕ) → w.end ≡ fell job → (job < jobs) × (time_at w.times job <ℤ floor rules)
+  pub above : w.fallen ≡ None → below_floor (floor rules) w.times ≡ false
+  pub below : (job : ℕ) → w.fallen ≡ Some job → below_floor (floor rules) w.times ≡ true
+  pub fell_at : (job : ℕ) → w.fallen ≡ Some job → (job < jobs) × (time_at w.times job <ℤ floor rules)
 
-pub fell_is : {i j : ℕ} → fell i ≡ fell j → i ≡ j
-fell_is e = cc
-
-pub not_fell : {A : Type 0} {j : ℕ} → unfinished ≡ fell j → A
-not_fell e = absurd (let z : ◌≡◌ {A = ℕ} 0 1 = cc in omega arith)
+some_is : {i j : ℕ} → Some i ≡ Some j → i ≡ j
+some_is e = cc
 
 module _ {jobs : ℕ} {rules : List Rule} (a : Accepted jobs rules) where
   pub pass_is : (rest : List Rule) (i : ℕ) (state : State) → Reached jobs rules state → below_floor (floor rules) state.times ≡ false → drop i rules ≡ rest →
       PassIs jobs rules rest state (up_from i (length rest)) (pass (floor rules) (clauses_of rest) state.times state.tally.steps)
-  unfolding pass up_from play end_state fallen step_on
+  unfolding pass up_from play end_state step_on
   pass_is [] i state d above e =
       record {
         times_is = refl;
@@ -138,8 +137,8 @@ module _ {jobs : ℕ} {rules : List Rule} (a : Accepted jobs rules) where
         more = omega arith;
         still = λ q. (tt, refl);
         above = λ q. above;
-        below = λ q. clash q refl;
-        fell_at = λ job q. not_fell q;
+        below = λ job q. absurd (none-some job q);
+        fell_at = λ job q. absurd (none-some job q);
       }
   pass_is (r ∷ rest) i state d above e =
       let q = drop_at rules i r rest e in
@@ -153,13 +152,13 @@ module _ {jobs : ℕ} {rules : List Rule} (a : Accepted jobs rules) where
       lowered : List ℤ
       lowered = set state.times r.z (left_side r state.times)
 
-      fallen_run : Run
-      fallen_run = record { times = lowered; steps = state.tally.steps + 1; end = fell r.z }
+      dropped : Pass
+      dropped = record { times = lowered; steps = state.tally.steps + 1; fallen = Some r.z }
 
       go : (b c : Bool) → satisfied r state.times ≡ b → lt_z (left_side r state.times) (floor rules) ≡ c → i < length rules → rule_at rules i ≡ r →
           ((s : State) → Reached jobs rules s → below_floor (floor rules) s.times ≡ false → PassIs jobs rules rest s next (pass (floor rules) (clauses_of rest) s.times s.tally.steps)) →
           PassIs jobs rules (r ∷ rest) state (i ∷ next)
-          (cond b (pass (floor rules) (clauses_of rest) state.times state.tally.steps) (cond c fallen_run (pass (floor rules) (clauses_of rest) lowered (state.tally.steps + 1))))
+          (cond b (pass (floor rules) (clauses_of rest) state.times state.tally.steps) (cond c dropped (pass (floor rules) (clauses_of rest) lowered (state.tally.steps + 1))))
       go true c p q h at on =
           let ih = on state d above in
           let same = after_stay a (view a state i d) (λ _ _ violated. clash (rw at p) violated) in
@@ -184,9 +183,9 @@ module _ {jobs : ℕ} {rules : List Rule} (a : Accepted jobs rules) where
             steps_is = ap (λ (s : State). s.tally.steps) end;
             more = omega arith;
             still = λ k. absurd (omega (arith, k));
-            above = λ k. clash refl k;
-            below = λ k. low;
-            fell_at = λ job k. subst (λ (j : ℕ). (j < jobs) × (time_at lowered j <ℤ floor rules)) (fell_is k)
+            above = λ k. absurd (none-some r.z (sym k));
+            below = λ job k. low;
+            fell_at = λ job k. subst (λ (j : ℕ). (j < jobs) × (time_at lowered j <ℤ floor rules)) (some_is k)
                 ((rw at at (each_at (InBook jobs) rules i h a.rules_in).third), rw left (lt_true q));
           }
       go false false p q h at on =
@@ -212,16 +211,13 @@ pub record PassesAre (jobs : ℕ) (rules : List Rule) (state : State) (n : ℕ) 
   pub fell_at : (job : ℕ) → w.end ≡ fell job → (job < jobs) × (time_at w.times job <ℤ floor rules)
   pub ends : pass_bound jobs rules ≤ n + state.tally.steps → w.end ≡ unfinished → ⊥
 
+fell_is : {i j : ℕ} → fell i ≡ fell j → i ≡ j
+fell_is e = cc
+
 -- three ways to stand
-pub ends_apart : {j : ℕ} → ((planned ≡ fell j) → ⊥) × ((planned ≡ unfinished) → ⊥) × ((fell j ≡ unfinished) → ⊥)
+ends_apart : {j : ℕ} → ((planned ≡ fell j) → ⊥) × ((planned ≡ unfinished) → ⊥) × ((fell j ≡ unfinished) → ⊥)
 ends_apart =
     ((λ e. let z : ◌≡◌ {A = ℕ} 0 1 = cc in omega arith), (λ e. let z : ◌≡◌ {A = ℕ} 0 1 = cc in omega arith), (λ e. let z : ◌≡◌ {A = ℕ} 0 1 = cc in omega arith))
-
-pub fallen_end : (e : End) → fallen e ≡ true → (e ≡ planned → ⊥) × (e ≡ unfinished → ⊥)
-unfolding fallen
-fallen_end planned q = clash q refl
-fallen_end (fell j) q = ((λ e. ends_apart.0 (sym e)), ends_apart.2)
-fallen_end unfinished q = clash q refl
 
 module _ {jobs : ℕ} {rules : List Rule} (a : Accepted jobs rules) where
   pub passes_are : (n : ℕ) (state : State) → Reached jobs rules state → below_floor (floor rules) state.times ≡ false →
@@ -232,12 +228,12 @@ module _ {jobs : ℕ} {rules : List Rule} (a : Accepted jobs rules) where
         times_is = refl;
         steps_is = refl;
         planned_is = λ e. absurd ((ends_apart {j = 0}).1 (sym e));
-        fell_at = λ job e. not_fell e;
+        fell_at = λ job e. absurd (ends_apart.2 (sym e));
         ends = λ few e. omega (arith, longest_high (set_of a) d (test_high (floor rules) state.times (floor_low a) above), room_zero jobs rules);
       }
   passes_are (suc n) state d above =
       let p = pass_is a rules 0 state d above refl in
-      go (fallen (pass (floor rules) (clauses_of rules) state.times state.tally.steps).end)
+      go (pass (floor rules) (clauses_of rules) state.times state.tally.steps).fallen
       (eqb (pass (floor rules) (clauses_of rules) state.times state.tally.steps).steps state.tally.steps) refl refl p
       (λ high. passes_are n mid reached (rw p.times_is high))
     where
@@ -250,26 +246,29 @@ module _ {jobs : ℕ} {rules : List Rule} (a : Accepted jobs rules) where
       reached : Reached jobs rules mid
       reached = (played a state d calls).reached
 
-      w : Run
+      w : Pass
       w = pass (floor rules) (clauses_of rules) state.times state.tally.steps
 
       joined : run_through jobs rules state (rounds (suc n) (length rules)) ≡ run_through jobs rules mid (rounds n (length rules))
       joined = run_append jobs rules state calls (rounds n (length rules))
 
-      go : (b c : Bool) → fallen w.end ≡ b → eqb w.steps state.tally.steps ≡ c → PassIs jobs rules rules state calls w →
+      ended : End → Run
+      ended end = record { times = w.times; steps = w.steps; end = end }
+
+      go : (o : Option ℕ) (c : Bool) → w.fallen ≡ o → eqb w.steps state.tally.steps ≡ c → PassIs jobs rules rules state calls w →
           (below_floor (floor rules) w.times ≡ false → PassesAre jobs rules mid n (passes n (floor rules) (clauses_of rules) mid.times mid.tally.steps)) →
           PassesAre jobs rules state (suc n)
-          (cond b w (cond c (record { times = w.times; steps = w.steps; end = planned }) (passes n (floor rules) (clauses_of rules) w.times w.steps)))
-      go true c e g p on =
-          let end = joined ∙ stay_low a mid reached (rw p.times_is (p.below e)) (rounds n (length rules)) in
+          (elim o [ Some job ↦ ended (fell job) | None ↦ cond c (ended planned) (passes n (floor rules) (clauses_of rules) w.times w.steps) ])
+      go (Some job) c e g p on =
+          let end = joined ∙ stay_low a mid reached (rw p.times_is (p.below job e)) (rounds n (length rules)) in
           record {
             times_is = ap (λ (s : State). s.times) end ∙ p.times_is;
             steps_is = ap (λ (s : State). s.tally.steps) end ∙ p.steps_is;
-            planned_is = λ q. absurd ((fallen_end w.end e).0 q);
-            fell_at = p.fell_at;
-            ends = λ few q. (fallen_end w.end e).1 q;
+            planned_is = λ q. absurd (ends_apart.0 (sym q));
+            fell_at = λ j q. p.fell_at j (e ∙ ap Some (fell_is q));
+            ends = λ few q. ends_apart.2 q;
           }
-      go false true e g p on =
+      go None true e g p on =
           let still = p.still (eqb-true w.steps state.tally.steps g) in
           let sat : AllSatisfied rules w.times = rw still.1 still.0 in
           let end = joined ∙ stay_kept a mid reached (rw p.times_is sat) (rounds n (length rules)) in
@@ -280,7 +279,7 @@ module _ {jobs : ℕ} {rules : List Rule} (a : Accepted jobs rules) where
             fell_at = λ job q. absurd (ends_apart.0 q);
             ends = λ few q. (ends_apart {j = 0}).1 q;
           }
-      go false false e g p on =
+      go None false e g p on =
           let same : passes n (floor rules) (clauses_of rules) mid.times mid.tally.steps ≡ passes n (floor rules) (clauses_of rules) w.times w.steps =
           ap (λ (t : List ℤ). passes n (floor rules) (clauses_of rules) t mid.tally.steps) p.times_is ∙ ap (λ (k : ℕ). passes n (floor rules) (clauses_of rules) w.times k) p.steps_is in
           let ih = subst (PassesAre jobs rules mid n) same (on (p.above e)) in

@@ -7,3 +7,4 @@ pub mod Faults
 pub mod Replies
 pub mod Demands
 pub mod Examples
+pub mod Demand1

@@ -1,6 +1,6 @@
 -- A run pass by pass: what passes with a step each leave of it, and how it ends. Over clauses with any number of arms. Assumes nothing.
 use mathlib.Core.Path.{◌≡◌, refl, sym, ap, subst, ◌∙◌}
-use mathlib.Core.Bool.{true, cond}
+use mathlib.Core.Bool.{cond}
 use mathlib.Core.List.{List}
 use Prim.Native.Nat.{ℕ, suc, ◌+◌, ◌-◌, ◌≤◌, ◌<◌}
 use native.Mathlib.Omega.{arith}
@@ -8,10 +8,11 @@ use lib.ListN.{length}
 use lib.IntN.{ℤ}
 use lib.Dec.{eqb}
 use borrow.Author.Tests.{eq-eqb, ne_eqb}
+use Rattle.std.specs.Prelude.{Some, None}
 use Rattle.maxatom.specs.Book.{Each}
 use Rattle.maxatom.specs.Clauses.{Clause}
 use Rattle.maxatom.specs.Passes.{Walk, Passing, start, round}
-use Rattle.maxatom.specs.Runs.{Run, planned, pass, passes, fallen, room}
+use Rattle.maxatom.specs.Runs.{Pass, pass, End, planned, fell, Run, passes, room}
 use Rattle.maxatom.proofs.Choose.{cond_yes, cond_no}
 use Rattle.maxatom.proofs.Walks.{High, Targets, walk_size, walk_high, walk_room, walk_pass}
 
@@ -38,11 +39,13 @@ pub record Ends (floor : ℤ) (cs : List Clause) (b : List ℤ) (s : ℕ) (w : R
   pub at : (n : ℕ) → room floor b < n → w ≡ passes n floor cs b s
 
 module _ (floor : ℤ) (cs : List Clause) (n s : ℕ) where
-  -- the run after its first pass, which made w
-  abbrev after : Run → Run
-  after w = cond (fallen w.end) w (cond (eqb w.steps s) (record { times = w.times; steps = w.steps; end = planned }) (passes n floor cs w.times w.steps))
+  -- the run after its first pass, which left p
+  abbrev after : Pass → Run
+  after p =
+      let ended : End → Run = λ end. record { times = p.times; steps = p.steps; end = end } in
+      elim p.fallen [ Some job ↦ ended (fell job) | None ↦ cond (eqb p.steps s) (ended planned) (passes n floor cs p.times p.steps) ]
 
-  first_pass : (b : List ℤ) {w : Run} → pass floor cs b s ≡ w → passes (suc n) floor cs b s ≡ after w
+  first_pass : (b : List ℤ) {p : Pass} → pass floor cs b s ≡ p → passes (suc n) floor cs b s ≡ after p
   unfolding passes
   first_pass b e = ap after e
 
@@ -51,12 +54,12 @@ module _ {floor : ℤ} {cs : List Clause} where
   more {b = b} {s = s} {w = w} f = record { at = λ n h. subst (λ (m : ℕ). w ≡ passes m floor cs b s) (omega arith) (f (n - 1)) }
 
   -- a fall ends the run
-  pub ends_fell : {b : List ℤ} {s : ℕ} {w : Run} → pass floor cs b s ≡ w → fallen w.end ≡ true → Ends floor cs b s w
-  ends_fell {b = b} {s = s} said q = more (λ n. sym (first_pass floor cs n s b said ∙ cond_yes _ _ q))
+  pub ends_fell : {b b' : List ℤ} {s s' job : ℕ} → pass floor cs b s ≡ record { times = b'; steps = s'; fallen = Some job } →
+      Ends floor cs b s (record { times = b'; steps = s'; end = fell job })
+  ends_fell {b = b} {s = s} said = more (λ n. sym (first_pass floor cs n s b said))
 
   -- and so does a pass without a step
   pub ends_planned : {b b' : List ℤ} (s : ℕ) → Walk floor cs b b' 0 → Ends floor cs b s (record { times = b'; steps = s; end = planned })
-  unfolding fallen
   ends_planned {b = b} {b' = b'} s w =
       more
       (λ n. sym
@@ -64,7 +67,6 @@ module _ {floor : ℤ} {cs : List Clause} where
       ∙ (cond_yes _ _ (eq-eqb (s + 0) s (omega arith)) ∙ ap (λ (i : ℕ). record { times = b'; steps = i; end = planned }) (omega arith))))
 
   passes_after : {b b' : List ℤ} {p k : ℕ} → Passing floor cs 1 b b' p k → (s m n : ℕ) → m ≡ p + n → passes m floor cs b s ≡ passes n floor cs b' (s + k)
-  unfolding fallen
   passes_after {b = b} start s m n e = ap (λ (i : ℕ). passes i floor cs b s) (omega (arith, e)) ∙ ap (λ (i : ℕ). passes n floor cs b i) (omega arith)
   passes_after {b' = b'} (round {b' = a} {p = p} {s = j} {k = k} l w h) s m n e =
       passes_after l s m (suc n) (omega arith)

@@ -7,12 +7,13 @@ use lib.ListN.{length, set, length-set}
 use lib.Seq.{get_or-set_same}
 use lib.IntN.{ℤ, pos}
 use lib.Signed.{◌≤ℤ◌, ◌<ℤ◌}
+use Rattle.std.specs.Prelude.{Some, None}
 use Rattle.maxatom.specs.Rule.{time_at, minutes_off}
 use Rattle.maxatom.specs.Book.{Each}
 use Rattle.maxatom.specs.declared.Arm.{Arm}
 use Rattle.maxatom.specs.Clauses.{In, here, there, Clause, Assignment, greatest, left_of, arms_of, Keeps, kept, stepped}
 use Rattle.maxatom.specs.Passes.{Walk, done, keep, lower}
-use Rattle.maxatom.specs.Runs.{unfinished, fell, pass, room}
+use Rattle.maxatom.specs.Runs.{pass, room}
 use Rattle.maxatom.proofs.Choose.{cond_yes, cond_no}
 use Rattle.maxatom.proofs.Integers.{up, dn, le_read, le_make, lt_read, eq_make, off_parts, true_le, false_le, true_lt, false_lt, ≤ℤ-trans}
 use Rattle.maxatom.proofs.Lists.{set_time, sum_set}
@@ -100,24 +101,24 @@ module _ {floor : ℤ} where
     pub walk_lower : left_of (time_at b) c <ℤ time_at b c.target → floor ≤ℤ left_of (time_at b) c → Walk floor (cs ++ (c ∷ [])) a (stepped b c) (s + 1)
     walk_lower v h = walk_join w (lower v h done)
 
-  -- a walk is a pass without an end
-  pub walk_pass : {cs : List Clause} {b b' : List ℤ} {k : ℕ} (s : ℕ) → Walk floor cs b b' k → pass floor cs b s ≡ record { times = b'; steps = s + k; end = unfinished }
+  -- a walk is a pass without a fall
+  pub walk_pass : {cs : List Clause} {b b' : List ℤ} {k : ℕ} (s : ℕ) → Walk floor cs b b' k → pass floor cs b s ≡ record { times = b'; steps = s + k; fallen = None }
   unfolding pass kept
-  walk_pass {b = b} s done = ap (λ (n : ℕ). record { times = b; steps = n; end = unfinished }) (omega arith)
+  walk_pass {b = b} s done = ap (λ (n : ℕ). record { times = b; steps = n; fallen = None }) (omega arith)
   walk_pass s (keep h w) = cond_yes _ _ (true_le h) ∙ walk_pass s w
   walk_pass {b' = b'} s (lower {s = k} v h w) =
-      cond_no _ _ (false_le v) ∙ (cond_no _ _ (false_lt h) ∙ (walk_pass (s + 1) w ∙ ap (λ (n : ℕ). record { times = b'; steps = n; end = unfinished }) (omega arith)))
+      cond_no _ _ (false_le v) ∙ (cond_no _ _ (false_lt h) ∙ (walk_pass (s + 1) w ∙ ap (λ (n : ℕ). record { times = b'; steps = n; fallen = None }) (omega arith)))
 
-  -- a walk before a clause whose step falls is a pass with that end
+  -- a walk before a clause whose step falls is a pass with that fall
   pub walk_fell : {cs : List Clause} {b b' : List ℤ} {k : ℕ} (s : ℕ) → Walk floor cs b b' k → (c : Clause) (ds : List Clause) → left_of (time_at b') c <ℤ time_at b' c.target →
-      left_of (time_at b') c <ℤ floor → pass floor (cs ++ (c ∷ ds)) b s ≡ record { times = stepped b' c; steps = s + k + 1; end = fell c.target }
+      left_of (time_at b') c <ℤ floor → pass floor (cs ++ (c ∷ ds)) b s ≡ record { times = stepped b' c; steps = s + k + 1; fallen = Some c.target }
   unfolding pass kept
   walk_fell {b = b} s done c ds v low =
-      cond_no _ _ (false_le v) ∙ (cond_yes _ _ (true_lt low) ∙ ap (λ (n : ℕ). record { times = stepped b c; steps = n + 1; end = fell c.target }) (omega arith))
+      cond_no _ _ (false_le v) ∙ (cond_yes _ _ (true_lt low) ∙ ap (λ (n : ℕ). record { times = stepped b c; steps = n + 1; fallen = Some c.target }) (omega arith))
   walk_fell s (keep h w) c ds v low = cond_yes _ _ (true_le h) ∙ walk_fell s w c ds v low
   walk_fell {b' = b'} s (lower {s = k} p h w) c ds v low =
       cond_no _ _ (false_le p)
-      ∙ (cond_no _ _ (false_lt h) ∙ (walk_fell (s + 1) w c ds v low ∙ ap (λ (n : ℕ). record { times = stepped b' c; steps = n + 1; end = fell c.target }) (omega arith)))
+      ∙ (cond_no _ _ (false_lt h) ∙ (walk_fell (s + 1) w c ds v low ∙ ap (λ (n : ℕ). record { times = stepped b' c; steps = n + 1; fallen = Some c.target }) (omega arith)))
 
 -- no arm's job has another time
 abbrev pub Still : List ℤ → List ℤ → Clause → Type 0

@@ -40,7 +40,7 @@ pub data LockstepPasses (floor : ℤ) (cs : List Clause) : List ℤ → List ℤ
   start : {n f : List ℤ} → LockstepPasses floor cs n f n f 0 0
   round : {n f n' f' n'' f'' : List ℤ} {p s k : ℕ} → LockstepPasses floor cs n f n' f' p s → Lockstep floor cs n' f' n'' f'' k → 1 ≤ k → LockstepPasses floor cs n f n'' f'' (p + 1) (s + k)
 
--- passes without an end, each with `least` steps or more; the numbers are those of the passes and of their steps
+-- passes without a fall, each with `least` steps or more; the numbers are those of the passes and of their steps
 pub data Passing (floor : ℤ) (cs : List Clause) (least : ℕ) : List ℤ → List ℤ → ℕ → ℕ → Type 0 where
   start : {b : List ℤ} → Passing floor cs least b b 0 0
   round : {b b' b'' : List ℤ} {p s k : ℕ} → Passing floor cs least b b' p s → Walk floor cs b' b'' k → least ≤ k → Passing floor cs least b b'' (p + 1) (s + k)

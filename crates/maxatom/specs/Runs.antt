@@ -1,8 +1,24 @@
 -- Runs: passes over clauses from given times, a step on each violated one.
-use Rattle.std.specs.Prelude.{Bool, true, false, cond, List, [], ◌∷◌, ℕ, zero, suc, ◌+◌, eqb, ℤ}
+use Rattle.std.specs.Prelude.{cond, Option, Some, None, List, [], ◌∷◌, ℕ, zero, suc, ◌+◌, eqb, ℤ}
 use Rattle.std.specs.Int.Signed.{lt_z}
 use Rattle.maxatom.specs.Rule.{time_at, minutes_off}
 use Rattle.maxatom.specs.Clauses.{Clause, left_of, kept, stepped}
+
+-- what a pass leaves: the times, the steps so far, and the job that fell, where one did
+pub record Pass : Type 0 where
+  pub times : List ℤ
+  pub steps : ℕ
+  pub fallen : Option ℕ
+
+-- one pass: a step on each violated clause, and an end at once when a time falls below the floor
+unfoldable pub pass : ℤ → List Clause → List ℤ → ℕ → Pass
+pass floor [] times steps = record { times = times; steps = steps; fallen = None }
+pass floor (c ∷ cs) times steps =
+    let lowered = stepped times c in
+    let next = pass floor cs times steps in
+    let down = pass floor cs lowered (steps + 1) in
+    cond (kept c times) next
+    (cond (lt_z (left_of (time_at times) c) floor) (record { times = lowered; steps = steps + 1; fallen = Some c.target }) down)
 
 -- how a run stands: a plan; none, with the job that fell; or not at its end
 pub data End : Type 0 where
@@ -15,29 +31,14 @@ pub record Run : Type 0 where
   pub steps : ℕ
   pub end : End
 
--- one pass: a step on each violated clause, and an end at once when a time falls below the floor
-unfoldable pub pass : ℤ → List Clause → List ℤ → ℕ → Run
-pass floor [] times steps = record { times = times; steps = steps; end = unfinished }
-pass floor (c ∷ cs) times steps =
-    let lowered = stepped times c in
-    let next = pass floor cs times steps in
-    let down = pass floor cs lowered (steps + 1) in
-    cond (kept c times) next
-    (cond (lt_z (left_of (time_at times) c) floor) (record { times = lowered; steps = steps + 1; end = fell c.target }) down)
-
-unfoldable pub fallen : End → Bool
-fallen planned = false
-fallen (fell job) = true
-fallen unfinished = false
-
 -- at most n passes: the run ends after a pass without a step, or at once where a time falls
 unfoldable pub passes : ℕ → ℤ → List Clause → List ℤ → ℕ → Run
 passes zero floor cs times steps = record { times = times; steps = steps; end = unfinished }
 passes (suc n) floor cs times steps =
-    let w = pass floor cs times steps in
-    let more = passes n floor cs w.times w.steps in
-    cond (fallen w.end) w
-    (cond (eqb w.steps steps) (record { times = w.times; steps = w.steps; end = planned }) more)
+    let p = pass floor cs times steps in
+    let ended : End → Run = λ end. record { times = p.times; steps = p.steps; end = end } in
+    let more = passes n floor cs p.times p.steps in
+    elim p.fallen [ Some job ↦ ended (fell job) | None ↦ cond (eqb p.steps steps) (ended planned) more ]
 
 -- the sum of a measure over the times
 unfoldable pub sum_by : (ℤ → ℕ) → List ℤ → ℕ

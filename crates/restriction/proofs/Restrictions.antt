@@ -125,13 +125,9 @@ module _ (paces : List Pace) (times : List ℤ) (c : Clause) where
     left_foreign e = rw (proper, e)
 
     module _ {a : Arm} (first : first_own paces c (arms_of c) ≡ Some a) {d : Clause} (is : d ≡ with_own paces a c) where
-      pub left_own : le_z (left_of (time_at times) c) (left_of (time_at times) d) ≡ true → leftover paces times c ≡ d ∷ []
+      pub left_sides : leftover paces times c ≡ cond (le_z (left_of (time_at times) c) (left_of (time_at times) d)) (d ∷ []) []
       unfolding leftover restricted
-      left_own e = rw (proper, first, is, rw is at e)
-
-      pub left_low : le_z (left_of (time_at times) c) (left_of (time_at times) d) ≡ false → leftover paces times c ≡ []
-      unfolding leftover restricted
-      left_low e = rw (proper, first, rw is at e)
+      left_sides = rw (proper, first, is) refl
 
 -- the clauses of components, by the component of the first one's target
 module _ (from to : ℕ) (paces : List Pace) (times : List ℤ) (c : Clause) (cs : List Clause) where

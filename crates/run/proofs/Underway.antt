@@ -1,5 +1,5 @@
 -- A run underway: from times that it came to it can go on, its steps are few, and how it ends. Assumes nothing.
-use Rattle.std.proofs.Common.{◌≡◌, refl, sym, ap, subst, ◌∙◌, ℕ, suc, ◌+◌, ◌*◌, ◌<◌, ◌≤◌, ◌^◌, List, [], ◌∷◌, ◌++◌, map, length, get_or, take, drop, ℤ, pos, nat_abs, ◌≤ℤ◌, Ok, Err, SFits, w32, arith, take-append-drop}
+use Rattle.std.proofs.Common.{◌≡◌, refl, sym, ap, subst, ◌∙◌, ℕ, suc, ◌+◌, ◌*◌, ◌<◌, ◌≤◌, ◌^◌, List, [], ◌∷◌, ◌++◌, map, length, get_or, take, drop, ℤ, pos, nat_abs, ◌≤ℤ◌, Some, Ok, Err, SFits, w32, arith, take-append-drop}
 use lib.ListN.{length-map}
 use Rattle.std.proofs.lemmas.List.{drop_more, get_or-map}
 use Rattle.maxatom.specs.Rule.{time_at}
@@ -7,7 +7,7 @@ use Rattle.maxatom.specs.Book.{Each, minus}
 use Rattle.maxatom.specs.Clauses.{In, here, InJobs, Clause, arms_of, arm_time, left_of, stepped}
 use Rattle.maxatom.specs.declared.Arm.{Arm}
 use Rattle.maxatom.specs.Passes.{Walk, round}
-use Rattle.maxatom.specs.Runs.{Run, run, room, sum_by, pass, fallen, fell}
+use Rattle.maxatom.specs.Runs.{pass, Run, run, room, sum_by}
 use Rattle.maxatom.proofs.Integers.{le_read, le_make, up_zero, off_parts, minus_parts, abs_parts, add_bounds, ≤ℤ-trans}
 use Rattle.maxatom.proofs.Signed.{fits_make, fits_between}
 use Rattle.maxatom.proofs.Lists.{each_in}
@@ -102,8 +102,7 @@ pass_planned {floor = floor} {cs = cs} {b = b} {b' = b'} {s = s} w e =
     rw e (ends_planned s (subst (λ (n : ℕ). Walk floor cs b b' n) (omega (arith, w.counted)) w.walk))
 
 pub pass_fell : {floor : ℤ} {cs : List Clause} {b b' : List ℤ} {s : ℕ} (e : Fall) → PassMade floor cs b s b' (Err e) → Ends floor cs b s (end_of (Err e) b')
-unfolding fallen
-pass_fell e said = ends_fell said refl
+pass_fell e said = ends_fell said
 
 -- a pass before a clause whose step falls, and that step
 pub fell_at : {floor : ℤ} (cs : List Clause) {b m b' : List ℤ} {s k : ℕ} (i : ℕ) → i < length cs → Walked floor (take i cs) b m s k → ((c : Clause) → Falls floor (get_or cs i c) m) → (e : Fall) →
@@ -113,7 +112,7 @@ fell_at {floor = floor} cs {b = b} {m = m} {s = s} i h w falls e last =
     let c = get_or cs i none in
     let split : take i cs ++ (c ∷ drop (i + 1) cs) ≡ cs = ap (λ (l : List Clause). take i cs ++ l) (sym (drop_more cs i none h)) ∙ take-append-drop i cs in
     rw ((last none).stored, (last none).counted, (last none).job_is, w.counted)
-    (subst (λ (l : List Clause). pass floor l b s ≡ record { times = stepped m c; steps = s + w.made + 1; end = fell c.target }) split
+    (subst (λ (l : List Clause). pass floor l b s ≡ record { times = stepped m c; steps = s + w.made + 1; fallen = Some c.target }) split
     (walk_fell s w.walk c (drop (i + 1) cs) (falls none).violated (falls none).low))
 
 pub ends_run : {floor : ℤ} {cs : List Clause} {b : List ℤ} {w : Run} → Ends floor cs b 0 w → w ≡ run floor cs b

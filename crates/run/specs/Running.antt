@@ -1,5 +1,5 @@
 -- What the run takes and answers.
-use Rattle.std.specs.Prelude.{◌≡◌, List, ℕ, ◌+◌, ◌≤◌, ◌^◌, length, ℤ, pos, nat_abs, ◌≤ℤ◌, Result, Ok, Err}
+use Rattle.std.specs.Prelude.{◌≡◌, Some, List, ℕ, ◌+◌, ◌≤◌, ◌^◌, length, ℤ, pos, nat_abs, ◌≤ℤ◌, Result, Ok, Err}
 use Rattle.maxatom.specs.Rule.{time_at}
 use Rattle.maxatom.specs.Book.{Each, minus}
 use Rattle.maxatom.specs.Clauses.{Clause, arms_of, stepped}
@@ -29,7 +29,7 @@ end_of (Err e) times = record { times = times; steps = e.steps; end = fell e.job
 -- one pass of a run: it went over all clauses, or it ended the run by a fall
 abbrev pub PassMade : ℤ → List Clause → List ℤ → ℕ → List ℤ → Result Pass Fall → Type 0
 PassMade floor cs times steps times' (Ok p) = Walked floor cs times times' steps p.steps
-PassMade floor cs times steps times' (Err e) = pass floor cs times steps ≡ record { times = times'; steps = e.steps; end = fell e.job }
+PassMade floor cs times steps times' (Err e) = pass floor cs times steps ≡ record { times = times'; steps = e.steps; fallen = Some e.job }
 
 -- the step on the clause is the last one of a run: it is stored, counted, and the job is named
 pub record LastStep (c : Clause) (times times' : List ℤ) (before : ℕ) (e : Fall) : Type 0 where

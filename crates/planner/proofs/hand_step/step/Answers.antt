@@ -68,7 +68,7 @@ pub take_step-requires : goal.take_step-requires
 take_step-requires c =
     let (h, r) = taken c.args.rules.now c.get.result _ c.get.ensures.lookup.3 c.in_ok-r.ensures.value in
     let above = at_floor _ c.args.times.now c.floor.ensures (search rules) c.if-below_floor.ensures in
-    rw r (step_room _ _ (state_of c.args.times.now c.args.tally.now) c.args.number c.in_ok-k.ensures (sym c.if-not-in_range.ensures) (sym c.if-not-tally_fits.ensures) h above (sym (rw r at c.if-is_satisfied.ensures)))
+    rw (← r) at (step_room _ _ (state_of c.args.times.now c.args.tally.now) c.args.number c.in_ok-k.ensures (sym c.if-not-in_range.ensures) (sym c.if-not-tally_fits.ensures) h above (sym (rw r at c.if-is_satisfied.ensures)))
 
 pub returns : goal.returns
 returns c =

@@ -1,0 +1,46 @@
+-- Demand 1, as one statement: what each call on a table says, over any arguments at all. Its proof: proofs/Refusing.antt.
+use Rattle.std.specs.Prelude.{◌≡◌, ◌↔◌, true, false, List, [], ◌∷◌, ◌++◌, ℕ, length, ℤ}
+use Rattle.std.specs.List.{Contains}
+use Rattle.maxatom.specs.Book.{Each}
+use Rattle.maxatom.specs.declared.Rule.{Rule}
+use Rattle.derivation.specs.Refusals.{Reply, refused, accepts, Check, check, jobs_check, size_check, times_checks, rule_check}
+use Rattle.derivation.specs.Step.{State, step_checks, step_call}
+use Rattle.derivation.specs.Calls.{model_check_call, tight_call, initial_reply, initial_times, run_reply, run_times}
+
+-- "its condition is the first to hold": a condition with this number and place holds, and none that stands before it in the list
+pub record FirstHolds (checks : List Check) (number place : ℕ) : Type 0 where
+  pub earlier : List Check
+  pub later : List Check
+  pub stands : checks ≡ earlier ++ check true number place ∷ later
+  pub none_before : Each (λ c. c.fails ≡ false) earlier
+
+-- what a call says whose refusals are a list of conditions, with these numbers: "each number is said when its condition is the first to hold,
+-- and at no other time"; else it answers
+pub record Refuses {A : Type 0} (numbers : List ℕ) (checks : List Check) (said : Reply A) : Type 0 where
+  pub exactly : (number place : ℕ) → (said ≡ refused number place) ↔ FirstHolds checks number place
+  pub answers : (accepts said ≡ true) ↔ Each (λ c. c.fails ≡ false) checks
+  pub own : (number place : ℕ) → said ≡ refused number place → Contains numbers number
+
+-- and "a refusal changes nothing that was lent": what was lent before the call, and what the call left of it
+pub record Refusing {A S : Type 0} (numbers : List ℕ) (checks : List Check) (said : Reply A) (before left : S) : Type 0 where
+  pub says : Refuses numbers checks said
+  pub unchanged : (number place : ℕ) → said ≡ refused number place → left ≡ before
+
+-- the calls on a table, and the fresh board, each with its numbers; the two tests are lent nothing that they could change
+pub record Demand1 : Type 0 where
+  -- kept test
+  pub model_check : (jobs : ℕ) (rules : List Rule) (times : List ℤ) →
+      Refuses (4 ∷ 5 ∷ 6 ∷ 7 ∷ 21 ∷ []) (times_checks jobs rules times) (model_check_call jobs rules times)
+  -- tight test
+  pub tight : (jobs : ℕ) (rules : List Rule) (times : List ℤ) (number : ℕ) →
+      Refuses (4 ∷ 5 ∷ 6 ∷ 7 ∷ 21 ∷ 24 ∷ []) (times_checks jobs rules times ++ (rule_check (length rules) number ∷ [])) (tight_call jobs rules times number)
+  -- fresh board
+  pub initial : (jobs : ℕ) (times : List ℤ) →
+      Refusing (4 ∷ 21 ∷ []) (jobs_check jobs ∷ size_check jobs times ∷ []) (initial_reply jobs times) times (initial_times jobs times)
+  -- hand step: board and tally
+  pub step : (jobs : ℕ) (rules : List Rule) (state : State) (number : ℕ) →
+      Refusing (4 ∷ 5 ∷ 6 ∷ 7 ∷ 21 ∷ 22 ∷ 23 ∷ 24 ∷ 25 ∷ 26 ∷ []) (step_checks jobs rules state number)
+      (step_call jobs rules state number).said state (step_call jobs rules state number).after
+  -- bench run
+  pub solve : (jobs : ℕ) (rules : List Rule) (buffer : List ℤ) →
+      Refusing (4 ∷ 5 ∷ 6 ∷ 7 ∷ 21 ∷ []) (times_checks jobs rules buffer) (run_reply jobs rules buffer) buffer (run_times jobs rules buffer)
