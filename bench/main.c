@@ -18,6 +18,7 @@ enum { JOBS = MARLINFRAY_MAX_JOBS, RULES = MARLINFRAY_MAX_RULES, OFFSET = MARLIN
 
 typedef struct {
     size_t n, count;
+    int32_t *latest;         // n of them, behind the rules
     marlinfray_rule rules[]; // `count` of them
 } Book;
 
@@ -27,7 +28,7 @@ typedef struct {
 } Out;
 
 static void solve(const Book *b, Out *o) {
-    marlinfray_solve(b->n, b->rules, b->count, o->times, b->n, &o->reply);
+    marlinfray_solve(b->n, b->rules, b->count, b->latest, b->n, o->times, b->n, &o->reply);
 }
 
 // ---- straight code ----
@@ -37,9 +38,21 @@ static int refuse(marlinfray_reply *reply, uint64_t number, uint64_t place) {
     return 1;
 }
 
-// The floor of a book that isn't refused, else 1 and the refusal: the same checks as the library's.
-static int32_t floor_of(size_t n, const marlinfray_rule *rules, size_t count, size_t times_len, marlinfray_reply *reply) {
-    int32_t f = 0;
+// The smallest of n latest times, where each is from MARLINFRAY_MIN_LATEST to 0; else 1 and the refusal.
+static int32_t smallest_of(size_t n, const int32_t *latest, marlinfray_reply *reply) {
+    int32_t smallest = 0;
+    for (size_t i = 0; i < n; i++) {
+        if (latest[i] < MARLINFRAY_MIN_LATEST || 0 < latest[i])
+            return refuse(reply, MARLINFRAY_REFUSED_LATEST, i);
+        smallest = latest[i] < smallest ? latest[i] : smallest;
+    }
+    return smallest;
+}
+
+// The floor of a book that isn't refused, and its smallest latest time; else 1 and the refusal: the same checks as the library's.
+static int32_t floor_of(size_t n, const marlinfray_rule *rules, size_t count, const int32_t *latest, size_t latest_len, size_t times_len,
+                        int32_t *smallest, marlinfray_reply *reply) {
+    int32_t k = 0;
     if (n < 1 || JOBS < n)
         return refuse(reply, MARLINFRAY_REFUSED_JOBS, 0);
     if (RULES < count)
@@ -49,9 +62,14 @@ static int32_t floor_of(size_t n, const marlinfray_rule *rules, size_t count, si
             return refuse(reply, MARLINFRAY_REFUSED_JOB, i);
         if (rules[i].k < -OFFSET || OFFSET < rules[i].k)
             return refuse(reply, MARLINFRAY_REFUSED_OFFSET, i);
-        f -= abs(rules[i].k);
+        k += abs(rules[i].k);
     }
-    return times_len == n ? f : refuse(reply, MARLINFRAY_REFUSED_LENGTH, 0);
+    if (latest_len != n)
+        return refuse(reply, MARLINFRAY_REFUSED_LENGTH, 0);
+    *smallest = smallest_of(n, latest, reply);
+    if (0 < *smallest)
+        return 1;
+    return times_len == n ? *smallest - k : refuse(reply, MARLINFRAY_REFUSED_LENGTH, 0);
 }
 
 // One pass over all rules, with a step on each violated one; 1 when the run has ended.
@@ -85,13 +103,13 @@ static double limit, per_step;
 
 // A straight run: its passes, or 0 where the limit came first. Called as solve is, and compiled for any book, not for the one address
 // that it is called with here.
-__attribute__((noipa)) static uint64_t straight_passes(size_t n, const marlinfray_rule *rules, size_t rules_len, int32_t *times,
-                                                       size_t times_len, marlinfray_reply *reply) {
-    int32_t floor = floor_of(n, rules, rules_len, times_len, reply);
+__attribute__((noipa)) static uint64_t straight_passes(size_t n, const marlinfray_rule *rules, size_t rules_len, const int32_t *latest,
+                                                       size_t latest_len, int32_t *times, size_t times_len, marlinfray_reply *reply) {
+    int32_t smallest, floor = floor_of(n, rules, rules_len, latest, latest_len, times_len, &smallest, reply);
     if (0 < floor)
         return 0;
     memset(reply, 0, sizeof *reply);
-    memset(times, 0, n * sizeof *times);
+    memcpy(times, latest, n * sizeof *times);
     double start = 0, half = 0;
     uint64_t steps_at_half = 0;
     for (uint64_t passes = 1;; passes++) {
@@ -112,7 +130,7 @@ __attribute__((noipa)) static uint64_t straight_passes(size_t n, const marlinfra
 }
 
 static uint64_t straight(const Book *b, Out *o) {
-    return straight_passes(b->n, b->rules, b->count, o->times, b->n, &o->reply);
+    return straight_passes(b->n, b->rules, b->count, b->latest, b->n, o->times, b->n, &o->reply);
 }
 
 // The larger of x and y, plus k, whatever the times are.
@@ -122,9 +140,11 @@ static int64_t left_side(marlinfray_rule r, const int32_t *times) {
 }
 
 // The kept test and the hand step, called and compiled in the same way.
-__attribute__((noipa)) static void straight_first_violated(size_t n, const marlinfray_rule *rules, size_t rules_len, const int32_t *times,
+__attribute__((noipa)) static void straight_first_violated(size_t n, const marlinfray_rule *rules, size_t rules_len,
+                                                           const int32_t *latest, size_t latest_len, const int32_t *times,
                                                            size_t times_len, marlinfray_reply *reply) {
-    if (0 < floor_of(n, rules, rules_len, times_len, reply))
+    int32_t smallest;
+    if (0 < floor_of(n, rules, rules_len, latest, latest_len, times_len, &smallest, reply))
         return;
     for (size_t i = 0; i < rules_len; i++)
         if (left_side(rules[i], times) < times[rules[i].z]) {
@@ -134,16 +154,17 @@ __attribute__((noipa)) static void straight_first_violated(size_t n, const marli
     *reply = (marlinfray_reply){MARLINFRAY_SATISFIED, 0, 0};
 }
 
-__attribute__((noipa)) static int straight_step(size_t n, const marlinfray_rule *rules, size_t rules_len, int32_t *times, size_t times_len,
-                                                marlinfray_tally *tally, size_t number, marlinfray_reply *reply) {
-    int32_t floor = floor_of(n, rules, rules_len, times_len, reply), least = 0;
+__attribute__((noipa)) static int straight_step(size_t n, const marlinfray_rule *rules, size_t rules_len, const int32_t *latest,
+                                                size_t latest_len, int32_t *times, size_t times_len, marlinfray_tally *tally,
+                                                size_t number, marlinfray_reply *reply) {
+    int32_t smallest, floor = floor_of(n, rules, rules_len, latest, latest_len, times_len, &smallest, reply), least = 0;
     uint64_t minutes = 0;
     if (0 < floor)
         return 1;
     for (size_t i = 0; i < n; i++) {
-        if (times[i] < 2 * floor || 0 < times[i])
+        if (times[i] < 2 * floor - smallest || latest[i] < times[i])
             return refuse(reply, MARLINFRAY_REFUSED_RANGE, 0);
-        minutes -= times[i];
+        minutes += latest[i] - times[i];
         least = times[i] < least ? times[i] : least;
     }
     if (tally->minutes != minutes || minutes < tally->steps)
@@ -324,6 +345,13 @@ static void random_none(Book *b, int o, int n, int count) {
         rule(b, below(n), below(n), below(2 * o + 1) - o, below(n));
 }
 
+// The same with random latest times.
+static void random_latest(Book *b, int o, int n, int count) {
+    random_plan(b, o, n, count);
+    for (int i = 0; i < n; i++)
+        b->latest[i] = -below(1 - MARLINFRAY_MIN_LATEST);
+}
+
 // A plan's rules, and a ring of nine jobs among them whose offsets have the sum -1.
 static void slow_none(Book *b, int o, int n, int count) {
     random_plan(b, o, n, count - 9);
@@ -405,6 +433,8 @@ static const Family families[] = {
     {"random, sparse, plan", random_plan, OFFSET, 256, 512, 0, 2},
     {"random, dense, plan", random_plan, OFFSET, 64, 1024, 0, 3},
     {"random, dense, plan", random_plan, OFFSET, 256, 1024, 0, 4},
+    {"random, everyday, latest times", random_latest, OFFSET, 32, 40, 0, 70},
+    {"random, dense, latest times", random_latest, OFFSET, 256, 1024, 0, 4},
     {"random, sparse, none", random_none, OFFSET, 256, 320, 2000, 5},
     {"random, sparse, none", random_none, OFFSET, 128, 160, 2000, 6},
     {"random, dense, none", random_none, OFFSET, 64, 1024, 2000, 7},
@@ -441,12 +471,17 @@ static const Family families[] = {
     {"85 counters with limits of their own", counters, 900, 85, 0, 0, 13},
 };
 
-// A random family has a book for each variant; the others have one. It takes no more memory than its rules need.
+// A random family has a book for each variant; the others have one. It takes no more memory than its rules and latest times need, which
+// are zero where the family sets no others.
 static Book *make(const Family *f, int offset, int variant) {
-    Book *b = calloc(1, sizeof *b + RULES * sizeof *b->rules);
+    Book *b = calloc(1, sizeof *b + RULES * sizeof *b->rules + JOBS * sizeof *b->latest);
     seed = f->seed + 1000 * variant;
+    b->latest = (int32_t *)&b->rules[RULES];
     f->make(b, offset, f->a, f->b);
-    return realloc(b, sizeof *b + b->count * sizeof *b->rules);
+    memmove(&b->rules[b->count], b->latest, b->n * sizeof *b->latest);
+    b = realloc(b, sizeof *b + b->count * sizeof *b->rules + b->n * sizeof *b->latest);
+    b->latest = (int32_t *)&b->rules[b->count];
+    return b;
 }
 
 // ---- timing ----
@@ -712,12 +747,12 @@ static void slow_run(int v) {
 
 static void fast_kept(int v) {
     const Book *b = samples[v].book;
-    marlinfray_first_violated(b->n, b->rules, b->count, samples[v].plan, b->n, &fast_reply);
+    marlinfray_first_violated(b->n, b->rules, b->count, b->latest, b->n, samples[v].plan, b->n, &fast_reply);
 }
 
 static void slow_kept(int v) {
     const Book *b = samples[v].book;
-    straight_first_violated(b->n, b->rules, b->count, samples[v].plan, b->n, &slow_reply);
+    straight_first_violated(b->n, b->rules, b->count, b->latest, b->n, samples[v].plan, b->n, &slow_reply);
 }
 
 // A hand step is made on the board, and taken back but for its tally.
@@ -725,15 +760,17 @@ static marlinfray_tally fast_tally, slow_tally;
 
 static void fast_step(int v) {
     Sample *s = &samples[v];
+    const Book *b = s->book;
     fast_tally = s->tally;
-    marlinfray_step(s->book->n, s->book->rules, s->book->count, s->board, s->book->n, &fast_tally, s->number, &fast_reply);
+    marlinfray_step(b->n, b->rules, b->count, b->latest, b->n, s->board, b->n, &fast_tally, s->number, &fast_reply);
     s->board[s->job] = s->time;
 }
 
 static void slow_step(int v) {
     Sample *s = &samples[v];
+    const Book *b = s->book;
     slow_tally = s->tally;
-    straight_step(s->book->n, s->book->rules, s->book->count, s->board, s->book->n, &slow_tally, s->number, &slow_reply);
+    straight_step(b->n, b->rules, b->count, b->latest, b->n, s->board, b->n, &slow_tally, s->number, &slow_reply);
     s->board[s->job] = s->time;
 }
 
@@ -741,21 +778,32 @@ static int same_reply(uint64_t kind) {
     return !memcmp(&fast_reply, &slow_reply, sizeof fast_reply) && fast_reply.kind == kind;
 }
 
-static void call_line(const char *call, const Book *b, double fast_time, double slow_time, int differs) {
-    printf("| %s | %zu | %zu | %s | %s | %s |%s\n", call, b->n, b->count, number(slow_time / fast_time), number(fast_time * 1e9),
+// Books that have a plan, the everyday ones among them, by their latest times: zero or random.
+static const Family planned[] = {
+    {"zero", random_plan, OFFSET, JOBS, 0, 0, 30},
+    {"zero", random_plan, OFFSET, 32, EVERYDAY, 0, 30 + EVERYDAY},
+    {"zero", random_plan, OFFSET, JOBS, 320, 0, 30 + 320},
+    {"zero", random_plan, OFFSET, JOBS, RULES, 0, 30 + RULES},
+    {"random", random_latest, OFFSET, 32, EVERYDAY, 0, 30 + EVERYDAY},
+    {"random", random_latest, OFFSET, JOBS, RULES, 0, 30 + RULES},
+};
+
+static void call_line(const char *call, const Family *f, double fast_time, double slow_time, int differs) {
+    printf("| %s | %d | %d | %s | %s | %s | %s |%s\n", call, f->a, f->b, f->name, number(slow_time / fast_time), number(fast_time * 1e9),
            number(slow_time * 1e9), differs ? " DIFFERS" : "");
 }
 
 // The bench run, the hand step and the kept test on books that have a plan. The kept test is made on the plan, so that it
 // looks at every rule, and the hand step steps; without a rule it is refused. 0 where the answers agree.
-static int everyday(int n, int count) {
-    const Family f = {"", random_plan, OFFSET, n, count, 0, 30 + count};
+static int everyday(const Family *f) {
+    int n = f->a, count = f->b;
     int variants = count ? ALL_RULES / count : 1, run_differs = 0, step_differs = 0, kept_differs = 0;
     limit = 60;
     for (int v = 0; v < variants; v++) {
         Sample *s = &samples[v];
-        Book *b = s->book = make(&f, f.offset, v);
-        s->plan = calloc(2 * n, sizeof *s->plan), s->board = s->plan + n;
+        Book *b = s->book = make(f, f->offset, v);
+        s->plan = malloc(2 * n * sizeof *s->plan), s->board = s->plan + n;
+        memcpy(s->board, b->latest, n * sizeof *s->board);
         fast_run(v), slow_run(v);
         run_differs |= !same(b, &fast, &slow) || fast.reply.kind != MARLINFRAY_PLAN;
         memcpy(s->plan, slow.times, n * sizeof *s->plan);
@@ -766,20 +814,20 @@ static int everyday(int n, int count) {
 
         int32_t left[2];
         marlinfray_tally tally[2] = {s->tally, s->tally};
-        marlinfray_step(n, b->rules, count, s->board, n, &tally[0], s->number, &fast_reply);
+        marlinfray_step(n, b->rules, count, b->latest, n, s->board, n, &tally[0], s->number, &fast_reply);
         left[0] = s->board[s->job], s->board[s->job] = s->time;
-        straight_step(n, b->rules, count, s->board, n, &tally[1], s->number, &slow_reply);
+        straight_step(n, b->rules, count, b->latest, n, s->board, n, &tally[1], s->number, &slow_reply);
         left[1] = s->board[s->job], s->board[s->job] = s->time;
         step_differs |= !same_reply(count ? MARLINFRAY_DONE : MARLINFRAY_REFUSED) || left[0] != left[1] ||
                         memcmp(&tally[0], &tally[1], sizeof *tally);
     }
     double fast_time, slow_time;
     by_turns(fast_run, slow_run, 1, variants, 0, &fast_time, &slow_time);
-    call_line("bench run", samples->book, fast_time, slow_time, run_differs);
+    call_line("bench run", f, fast_time, slow_time, run_differs);
     by_turns(fast_step, slow_step, 1, variants, 0, &fast_time, &slow_time);
-    call_line("hand step", samples->book, fast_time, slow_time, step_differs);
+    call_line("hand step", f, fast_time, slow_time, step_differs);
     by_turns(fast_kept, slow_kept, 1, variants, 0, &fast_time, &slow_time);
-    call_line("kept test", samples->book, fast_time, slow_time, kept_differs);
+    call_line("kept test", f, fast_time, slow_time, kept_differs);
     return run_differs || step_differs || kept_differs;
 }
 
@@ -790,6 +838,7 @@ enum { STACK = 1 << 20, PAINT = 0xa5 };
 // What the calls are given whose stack is counted: a book of the most jobs and rules, its file and the bytes of its plan.
 static Book *stack_book;
 static marlinfray_rule stack_rules[RULES];
+static int32_t stack_latest[JOBS];
 static uint8_t stack_file[MARLINFRAY_FILE_BYTES], stack_bytes[MARLINFRAY_PLAN_BYTES * JOBS];
 static size_t stack_length;
 static Out stack_out;
@@ -804,7 +853,7 @@ static int no_call(void) {
 }
 
 static int read_book_call(void) {
-    marlinfray_read_book(stack_file, stack_length, stack_rules, RULES, &stack_out.reply);
+    marlinfray_read_book(stack_file, stack_length, stack_rules, RULES, stack_latest, JOBS, &stack_out.reply);
     return 0;
 }
 
@@ -819,23 +868,25 @@ static int class_call(void) {
 }
 
 static int first_violated_call(void) {
-    marlinfray_first_violated(stack_book->n, stack_book->rules, stack_book->count, stack_out.times, stack_book->n, &stack_out.reply);
+    const Book *b = stack_book;
+    marlinfray_first_violated(b->n, b->rules, b->count, b->latest, b->n, stack_out.times, b->n, &stack_out.reply);
     return 0;
 }
 
 static int is_tight_call(void) {
-    marlinfray_is_tight(stack_book->n, stack_book->rules, stack_book->count, stack_out.times, stack_book->n, 0, &stack_out.reply);
+    const Book *b = stack_book;
+    marlinfray_is_tight(b->n, b->rules, b->count, b->latest, b->n, stack_out.times, b->n, 0, &stack_out.reply);
     return 0;
 }
 
 static int initial_call(void) {
-    marlinfray_initial(JOBS, stack_out.times, JOBS, &stack_out.reply);
+    marlinfray_initial(stack_book->n, stack_book->latest, stack_book->n, stack_out.times, stack_book->n, &stack_out.reply);
     return 0;
 }
 
 static int step_call(void) {
-    marlinfray_step(stack_book->n, stack_book->rules, stack_book->count, stack_out.times, stack_book->n, &stack_tally, stack_number,
-                    &stack_out.reply);
+    const Book *b = stack_book;
+    marlinfray_step(b->n, b->rules, b->count, b->latest, b->n, stack_out.times, b->n, &stack_tally, stack_number, &stack_out.reply);
     return 0;
 }
 
@@ -889,14 +940,17 @@ static int stacks(void) {
         {"read_book", read_book_call}, {"record", record_call},   {"class", class_call}, {"first_violated", first_violated_call},
         {"is_tight", is_tight_call},   {"initial", initial_call}, {"step", step_call},   {"write_plan", write_plan_call},
     };
-    const Family f = {"", random_plan, OFFSET, JOBS, RULES, 0, 29};
-    stack_book = make(&f, f.offset, 0);
+    const Family f = {"", random_latest, OFFSET, JOBS, RULES, 0, 29};
+    const Book *b = stack_book = make(&f, f.offset, 0);
     put16('B' | 'K' << 8), put16(JOBS);
+    for (size_t i = 0; i < JOBS; i++)
+        put16('C' | 'E' << 8), put16(i), put16(b->latest[i]), put16(b->latest[i] >> 16);
     for (size_t i = 0; i < RULES; i++) {
-        marlinfray_rule r = stack_book->rules[i];
+        marlinfray_rule r = b->rules[i];
         put16('R' | 'U' << 8), put16(r.x), put16(r.y), put16(r.z), put16(r.k), put16(r.k >> 16);
     }
-    straight_first_violated(JOBS, stack_book->rules, RULES, stack_out.times, JOBS, &stack_out.reply);
+    memcpy(stack_out.times, b->latest, sizeof stack_out.times);
+    straight_first_violated(JOBS, b->rules, RULES, b->latest, JOBS, stack_out.times, JOBS, &stack_out.reply);
     stack_number = stack_out.reply.first;
 
     size_t none = depth(no_call), most = 0;
@@ -950,11 +1004,12 @@ int main(int argc, char **argv) {
             differs = 1;
     }
     if (all || only_calls) {
-        static const int books[][2] = {{JOBS, 0}, {32, EVERYDAY}, {JOBS, 320}, {JOBS, RULES}};
-        printf("%s| Call | Jobs | Rules | Straight / library | library, ns | straight, ns |\n|---|---|---|---|---|---|\n", all ? "\n" : "");
-        for (size_t i = 0; i < sizeof books / sizeof *books; i++) {
+        printf("%s| Call | Jobs | Rules | Latest times | Straight / library | library, ns | straight, ns |\n"
+               "|---|---|---|---|---|---|---|\n",
+               all ? "\n" : "");
+        for (size_t i = 0; i < sizeof planned / sizeof *planned; i++) {
             if (is_child(&status))
-                exit(everyday(books[i][0], books[i][1]));
+                exit(everyday(&planned[i]));
             if (status)
                 differs = 1;
         }

@@ -7,6 +7,7 @@
 The cases are always the same. Status 1 where a call's refusal has no case, or where PROGRAM prints something else.
 """
 
+import itertools
 import pathlib
 import random
 import struct
@@ -24,12 +25,12 @@ MOST = 2**64 - 1
 HUGE = 2**16, 2**32 - 1, 2**32, 2**32 + 1, 2**63, MOST - 7, MOST
 
 REFUSALS = {
-    "read_book": {1, 2, 3, 4, 5, 6, 7, 21},
-    "first_violated": {4, 5, 6, 7, 21},
-    "is_tight": {4, 5, 6, 7, 21, 24},
-    "initial": {4, 21},
-    "step": {4, 5, 6, 7, 21, 22, 23, 24, 25, 26},
-    "solve": {4, 5, 6, 7, 21},
+    "read_book": {1, 2, 3, 4, 5, 6, 7, 8, 9, 21},
+    "first_violated": {4, 5, 6, 7, 8, 21},
+    "is_tight": {4, 5, 6, 7, 8, 21, 24},
+    "initial": {4, 8, 21},
+    "step": {4, 5, 6, 7, 8, 21, 22, 23, 24, 25, 26},
+    "solve": {4, 5, 6, 7, 8, 21},
     "write_plan": {4, 21},
 }
 seen = {call: set() for call in REFUSALS}
@@ -51,6 +52,11 @@ def packed(times):
     return struct.pack("<%di" % len(times), *times)
 
 
+def listed(n, latest):
+    """A list of latest times, which is not to be read where it is not n long."""
+    return ":!"[len(latest) != n] + packed(latest).hex()
+
+
 def table(rules):
     """The bytes of a table; those between z and k are any."""
     return b"".join(struct.pack("<3HHi", x, y, z, rng.getrandbits(16), k) for x, y, z, k in rules)
@@ -62,12 +68,13 @@ def line(call, reply, *arguments):
     print(call, *map(number, reply), *arguments)
 
 
-def read_book(data, places):
-    reply, rules = ref.read(data, places)
-    before = rng.randbytes(12 * places)
+def read_book(data, places, latest_places):
+    reply, rules, latest = ref.read(data, places, latest_places)
+    before, times = rng.randbytes(12 * places), rng.randbytes(4 * latest_places)
     after = "".join(struct.pack("<3H", *r[:3]).hex() + "...." + struct.pack("<i", r[3]).hex() for r in rules)
     after += before[12 * len(rules) :].hex()
-    line("read_book", reply, lent(data), lent(before) + ("/" + after if rules else ""))
+    times = lent(times, packed(latest) + times[4 * len(latest) :])
+    line("read_book", reply, lent(data), lent(before) + ("/" + after if rules else ""), times)
 
 
 def record(data, rule):
@@ -78,30 +85,33 @@ def class_of(x, y, z, k):
     line("class", (ref.class_of(x, y, z, k), 0, 0), *map(number, (x, y, z, k % 2**32)))
 
 
-def first_violated(n, rules, times):
-    line("first_violated", ref.kept(n, rules, times), number(n), lent(table(rules)), lent(packed(times)))
+def first_violated(n, rules, latest, times):
+    reply = ref.kept(n, rules, latest, times)
+    line("first_violated", reply, number(n), lent(table(rules)), listed(n, latest), lent(packed(times)))
 
 
-def is_tight(n, rules, times, rule):
-    line("is_tight", ref.tight(n, rules, times, rule), number(n), lent(table(rules)), lent(packed(times)), number(rule))
+def is_tight(n, rules, latest, times, rule):
+    reply = ref.tight(n, rules, latest, times, rule)
+    line("is_tight", reply, number(n), lent(table(rules)), listed(n, latest), lent(packed(times)), number(rule))
 
 
-def initial(n, times):
-    reply, after = ref.initial(n, times)
-    line("initial", reply, number(n), lent(packed(times), packed(after)))
+def initial(n, latest, times):
+    reply, after = ref.initial(n, latest, times)
+    line("initial", reply, number(n), listed(n, latest), lent(packed(times), packed(after)))
 
 
-def step(n, rules, times, tally, rule):
+def step(n, rules, latest, times, tally, rule):
     """A hand step; answers the times and the tally that it leaves."""
-    reply, after, tally_after = ref.step(n, rules, times, tally, rule)
+    reply, after, tally_after = ref.step(n, rules, latest, times, tally, rule)
+    board = lent(packed(times), packed(after))
     tallies = (struct.pack("<2Q", *t) for t in (tally, tally_after))
-    line("step", reply, number(n), lent(table(rules)), lent(packed(times), packed(after)), lent(*tallies), number(rule))
+    line("step", reply, number(n), lent(table(rules)), listed(n, latest), board, lent(*tallies), number(rule))
     return after, tally_after
 
 
-def solve(n, rules, times):
-    reply, after = ref.solved(n, rules, times)
-    line("solve", reply, number(n), lent(table(rules)), lent(packed(times), packed(after)))
+def solve(n, rules, latest, times):
+    reply, after = ref.solved(n, rules, latest, times)
+    line("solve", reply, number(n), lent(table(rules)), listed(n, latest), lent(packed(times), packed(after)))
 
 
 def write_plan(times, out, at):
@@ -116,6 +126,22 @@ def any_times(n):
     """Times of 32 bits: small ones, any, and the least and the largest."""
     kind = rng.randrange(3)
     return [rng.choice((rng.randint(-3, 3), rng.randint(-(2**31), 2**31 - 1), -(2**31), 2**31 - 1)[kind : kind + 2]) for _ in range(n)]
+
+
+def any_latest(n):
+    """Latest times: near zero, any, at and next to their bounds, all alike, or zero but for one."""
+    kind = rng.randrange(5)
+    if kind == 0:
+        return [-rng.randrange(4) for _ in range(n)]
+    if kind == 1:
+        return [-rng.randint(0, OFFSET) for _ in range(n)]
+    if kind == 2:
+        return [rng.choice((0, -1, 1 - OFFSET, -OFFSET)) for _ in range(n)]
+    if kind == 3:
+        return [-rng.randint(1, OFFSET)] * n
+    latest = [0] * n
+    latest[rng.randrange(n)] = rng.choice((-1, -60, -OFFSET, -rng.randint(1, OFFSET)))
+    return latest
 
 
 def any_rules(n, count, size):
@@ -145,8 +171,8 @@ def ring(n, size):
     return rules[:: rng.choice((1, -1))]
 
 
-def small_books():
-    """Books of a few jobs."""
+def few_jobs():
+    """Job counts and rules of small books."""
     for size in (0, 1, 2, 60, 600, OFFSET) * 40:
         n = rng.randint(1, 6)
         yield n, rng.choice((any_rules, kept_rules))(n, rng.randrange(10), size)
@@ -156,11 +182,11 @@ def small_books():
         example = [(0, 0, 1, -size), (3, 3, 2, 0), (1, 2, 3, -1), (1, 0, 3, 25)]
         yield 4, example
         yield 4, example + [(1, 2, 0, size - 1)]
-    yield from ref.EXAMPLES.values()
+    yield from (b[:2] for b in ref.EXAMPLES.values())
 
 
-def large_books():
-    """Books with more jobs and rules, up to the most, and those with the fewest of one and the most of the other."""
+def many_jobs():
+    """Job counts and rules of books up to the most of both, and with the fewest of one and the most of the other."""
     for n, count in ((20, 40), (60, 40), (100, 90), (256, 40), (256, 320), (64, 1024), (256, 1024)):
         yield n, kept_rules(n, count, OFFSET)
         yield n, any_rules(n, count, 60)
@@ -169,6 +195,22 @@ def large_books():
     yield 256, [(255, 255, 255, -OFFSET)]
     yield 256, []
     yield 2, [(0, 1, 0, 0)] * 1023 + [(0, 0, 1, -OFFSET)]
+
+
+def with_latest(books):
+    """Books of these job counts and rules, each with latest times of zero and with others."""
+    for n, rules in books:
+        yield n, rules, [0] * n
+        yield n, rules, any_latest(n)
+
+
+def small_books():
+    yield from with_latest(few_jobs())
+    yield from ref.EXAMPLES.values()
+
+
+def large_books():
+    yield from with_latest(many_jobs())
 
 
 def spoilt(n, rules):
@@ -191,6 +233,16 @@ def spoilt(n, rules):
     return n, rules
 
 
+def spoilt_latest(latest):
+    """A list with up to two times out of bounds, or of another length, or both."""
+    latest = list(latest)
+    for _ in range(rng.randrange(3)):
+        latest[rng.randrange(len(latest))] = rng.choice((1, -OFFSET - 1, 2**31 - 1, -(2**31)))
+    if rng.random() < 0.3:
+        latest = (latest + any_times(257))[: rng.choice((0, len(latest) - 1, len(latest) + 1, 256, 257))]
+    return latest
+
+
 def lengths(n):
     """A length for the times: mostly the right one."""
     n = min(n, 300)
@@ -202,82 +254,137 @@ def rule_numbers(rules):
     return rng.choice((rng.randrange(count) if count else 0, rng.randrange(count) if count else 0, count, count + 1, rng.choice(HUGE)))
 
 
-def held_board(n, rules):
+def held_board(rules, latest):
     """Times at and past the bounds of a legal board and of the floor."""
-    k = ref.total(rules)
-    edges = 0, 0, -1, -k, -k - 1, -2 * k
-    times = [rng.choice((rng.randint(-2 * k, 0), rng.choice(edges))) for _ in range(n)]
+    k, floor = ref.total(rules), ref.floor(rules, latest)
+    times = []
+    for last in latest:
+        edges = last, last, last - 1, floor, floor - 1, floor - k
+        times.append(rng.choice((rng.randint(floor - k, last), rng.choice(edges))))
     if rng.random() < 0.5:
-        times = [max(t, -k) for t in times]
+        times = [max(t, floor) for t in times]
     if rng.random() < 0.15:
-        times[rng.randrange(n)] = rng.choice((1, -2 * k - 1, 2**31 - 1, -(2**31)))
+        job = rng.randrange(len(times))
+        times[job] = rng.choice((latest[job] + 1, floor - k - 1, 2**31 - 1, -(2**31)))
     return times
 
 
-def held_tally(times):
+def held_tally(latest, times):
     """A tally that fits the times, or does not for once."""
-    minutes = max(-sum(times), 0)
+    minutes = max(sum(latest) - sum(times), 0)
     steps = rng.choice((0, minutes, rng.randint(0, minutes)))
     if rng.random() < 0.2:
-        steps, minutes = rng.choice(((minutes + 1, minutes), (steps, minutes + 1), (0, max(minutes - 1, 0)), (MOST, minutes), (0, MOST), (MOST, MOST), (0, minutes + 2**32)))
+        near = (minutes + 1, minutes), (steps, minutes + 1), (0, max(minutes - 1, 0)), (0, max(-sum(times), 0))
+        steps, minutes = rng.choice((*near, (MOST, minutes), (0, MOST), (MOST, MOST), (0, minutes + 2**32)))
     return steps, minutes
 
 
 # ---- cases of each call
 
 
-def table_calls(n, rules, turns):
-    """A book that is not refused, through all calls on a table."""
-    solve(n, rules, any_times(n))
-    plan, _, _ = ref.run(n, rules)
-    first_violated(n, rules, plan)
+def table_calls(n, rules, latest, turns):
+    """A book that is not refused, through all calls that read its list."""
+    solve(n, rules, latest, any_times(n))
+    initial(n, latest, any_times(n))
+    plan, _, _ = ref.run(rules, latest)
+    first_violated(n, rules, latest, plan)
     for _ in range(turns):
-        times = rng.choice((plan, any_times(n), [0] * n, [t + rng.randint(-1, 1) for t in plan]))
-        first_violated(n, rules, times)
-        is_tight(n, rules, times, rule_numbers(rules))
-        times = held_board(n, rules)
-        step(n, rules, times, held_tally(times), rule_numbers(rules))
-    times, tally = [0] * n, (0, 0)
+        times = rng.choice((plan, any_times(n), latest, [t + rng.randint(-1, 1) for t in plan]))
+        first_violated(n, rules, latest, times)
+        is_tight(n, rules, latest, times, rule_numbers(rules))
+        times = held_board(rules, latest)
+        step(n, rules, latest, times, held_tally(latest, times), rule_numbers(rules))
+    times, tally = latest, (0, 0)
     for _ in range(2 * turns):
         numbers = ref.broken(rules, times)
-        times, tally = step(n, rules, times, tally, rng.choice(numbers) if numbers and rng.random() < 0.8 else rule_numbers(rules))
+        rule = rng.choice(numbers) if numbers and rng.random() < 0.8 else rule_numbers(rules)
+        times, tally = step(n, rules, latest, times, tally, rule)
 
 
-def refused_tables(n, rules):
-    """A spoilt table, or buffers of other lengths, through all calls on a table."""
+def every_call(n, rules, latest, times, tally, rule):
+    """The same through each call that reads a list."""
+    solve(n, rules, latest, times)
+    initial(n, latest, times)
+    first_violated(n, rules, latest, times)
+    is_tight(n, rules, latest, times, rule)
+    step(n, rules, latest, times, tally, rule)
+
+
+def refused_tables(n, rules, latest):
+    """A spoilt table or list, or times of another length, through each call that reads a list."""
+    if rng.random() < 0.5:
+        latest = spoilt_latest(latest)
     if rng.random() < 0.8:
         n, rules = spoilt(n, rules)
     times = [0] * lengths(n) if rng.random() < 0.5 else any_times(lengths(n))
-    solve(n, rules, times)
-    first_violated(n, rules, times)
-    is_tight(n, rules, times, rule_numbers(rules))
-    step(n, rules, times, held_tally(times), rule_numbers(rules))
+    every_call(n, rules, latest, times, held_tally(latest, times), rule_numbers(rules))
 
 
 def tables():
-    for n, rules in small_books():
-        table_calls(n, rules, 3)
-        refused_tables(n, rules)
-    for n, rules in large_books():
-        table_calls(n, rules, 2)
-        refused_tables(n, rules)
+    for n, rules, latest in small_books():
+        table_calls(n, rules, latest, 3)
+        refused_tables(n, rules, latest)
+    for n, rules, latest in large_books():
+        table_calls(n, rules, latest, 2)
+        refused_tables(n, rules, latest)
     for n, count in ((0, 1), (1, 1024), (1, 1025), (256, 1024), (257, 0), (257, 1025), (0, 1025)):
-        rules = [(0, 0, 0, 1)] * count
         for length in {n, 0, 1, 256, 257}:
-            times = [0] * length
-            solve(n, rules, times)
-            first_violated(n, rules, times)
-            is_tight(n, rules, times, 1023)
-            step(n, rules, times, (0, 0), 0)
+            every_call(n, [(0, 0, 0, 1)] * count, [0] * n, [0] * length, (0, 0), 1023)
+            every_call(n, [(0, 0, 0, 1)] * count, [1] * length, [0] * n, (0, 0), 1023)
     for job in (255, 256):
         for place in range(3):
             rule = [0, 0, 0, -1]
             rule[place] = job
-            refused_tables(256, [(0, 0, 0, 0), tuple(rule)])
-            solve(256, [(0, 0, 0, 0), tuple(rule)], [7] * 256)
+            refused_tables(256, [(0, 0, 0, 0), tuple(rule)], [0] * 256)
+            solve(256, [(0, 0, 0, 0), tuple(rule)], [0] * 256, [7] * 256)
     for k in (OFFSET, OFFSET + 1, -OFFSET, -OFFSET - 1):
-        solve(2, [(0, 0, 1, 0), (0, 0, 1, k)], [7, 7])
-        first_violated(2, [(0, 0, 1, 0), (0, 0, 1, k)], [2**31 - 1, -(2**31)])
+        solve(2, [(0, 0, 1, 0), (0, 0, 1, k)], [0, 0], [7, 7])
+        first_violated(2, [(0, 0, 1, 0), (0, 0, 1, k)], [0, 0], [2**31 - 1, -(2**31)])
+
+
+def lists():
+    """Lists with times at and past the bounds, lists of other lengths, and which of two refusals comes first."""
+    for n in (1, 2, 3, 256):
+        rules = any_rules(n, 3, OFFSET)
+        for job in {0, n // 2, n - 1}:
+            for minute in (0, 1, -OFFSET, -OFFSET - 1, 2**31 - 1, -(2**31)):
+                latest = any_latest(n)
+                latest[job] = minute
+                every_call(n, rules, latest, latest, (0, 0), 0)
+                # 8 comes before a board of another length, and before all that only a hand step is refused for
+                every_call(n, rules, latest, any_times(n + 1), (0, 0), 0)
+                every_call(n, rules, latest, [1] * n, (MOST, 0), MOST)
+                # a list of another length gets 21, also where the board has that length
+                for length in (n - 1, n + 1):
+                    for times in ([0] * n, [0] * length):
+                        every_call(n, rules, (latest + [minute])[:length], times, (0, 0), MOST)
+                # both come after the faults of all rules
+                for rule in ((0, 0, n, 0), (0, 0, 0, OFFSET + 1)):
+                    every_call(n, [*rules, rule], latest, latest, (0, 0), 0)
+                    every_call(n, [*rules, rule], latest[1:], latest, (0, 0), 0)
+        # the first of two faults is the place
+        for first, second in itertools.combinations(sorted({0, 1, n // 2, n - 2, n - 1} & set(range(n))), 2):
+            latest = any_latest(n)
+            latest[first], latest[second] = rng.sample((1, -OFFSET - 1), 2)
+            every_call(n, rules, latest, latest, (0, 0), 0)
+
+
+def long_runs():
+    """Runs of many passes from latest times other than zero: a ring or two, with and without other rules among theirs; and two jobs that
+    fall a minute a pass down to the latest time of a third."""
+    for _ in range(40):
+        n, size = rng.choice(((2, 400), (3, 200), (5, 60), (9, 20), (30, 2)))
+        m = rng.randrange(1, n + 1)
+        second = [(x + n, y + n, z + n, k) for x, y, z, k in ring(m, size)]
+        for jobs, rules in ((n, ring(n, size)), (n, ring(n, size) + any_rules(n, 4, size)), (n + m, ring(n, size) + second)):
+            solve(jobs, rules, any_latest(jobs), any_times(jobs))
+            rng.shuffle(rules)
+            rules += any_rules(jobs, 2, 0)
+            solve(jobs, rules, any_latest(jobs), any_times(jobs))
+    for minute in (-1, -2, -17, -600, -OFFSET):
+        for others in ([0, 0], [minute // 2, minute // 3], [minute, 0]):
+            solve(3, [(2, 2, 1, 0), (0, 1, 2, -1)], [minute, *others], any_times(3))
+            solve(3, [(0, 1, 2, -1), (2, 2, 1, 0), (2, 1, 0, 60)], [minute, *others], any_times(3))
 
 
 def classes():
@@ -294,11 +401,14 @@ def classes():
 
 def initial_boards():
     for n in (0, 1, 2, 255, 256, 257, *HUGE):
-        for length in {min(n, 300), 0, 1, 2, 255, 256, 257}:
-            initial(n, any_times(length))
-    for _ in range(50):
-        n = rng.randint(0, 260)
-        initial(n, any_times(lengths(n)))
+        few = min(n, 300)
+        for length in {few, 0, 1, 2, 255, 256, 257}:
+            initial(n, [0] * few, any_times(length))
+            initial(n, [0] * length, any_times(few))
+    for _ in range(100):
+        n = rng.randint(1, 256)
+        latest = any_latest(n)
+        initial(n, rng.choice((latest, spoilt_latest(latest))), any_times(lengths(n)))
 
 
 def plans():
@@ -321,8 +431,12 @@ def rule_record(x, y, z, k):
     return struct.pack("<2s3Hi", b"RU", x, y, z, k)
 
 
-def book_file(n, rules):
-    return struct.pack("<2sH", b"BK", n) + b"".join(rule_record(*r) for r in rules)
+def book_file(n, rules, latest=()):
+    """The bytes of a book, with records for some of the latest times of zero too, in any order."""
+    jobs = [job for job, minute in enumerate(latest) if minute or rng.random() < 0.1]
+    rng.shuffle(jobs)
+    times = [ref.latest_record(job, latest[job]) for job in jobs]
+    return struct.pack("<2sH", b"BK", n) + b"".join(times + [rule_record(*r) for r in rules])
 
 
 def damaged(data):
@@ -330,7 +444,7 @@ def damaged(data):
     for _ in range(rng.randint(1, 3)):
         at = rng.randrange(len(data) + 1)
         some = rng.choice((1, 1, 2, rng.randrange(30)))
-        kind = rng.randrange(6)
+        kind = rng.randrange(7)
         if kind == 0 and data:
             at = min(at, len(data) - 1)
             data = data[:at] + bytes([data[at] ^ 1 << rng.randrange(8)]) + data[at + 1 :]
@@ -342,8 +456,11 @@ def damaged(data):
             data = data[:at]
         elif kind == 4:
             data += rng.randbytes(some)
+        elif kind == 5:
+            data = data[:4] + ref.latest_record(rng.randrange(4), rng.choice((0, -1, -OFFSET, 1, -OFFSET - 1))) + data[4:]
         else:
-            data += rng.choice((b"BK\1\0", b"RU", b"HR", b"B", b"RK", rule_record(0, 0, 0, 60), rule_record(9, 0, 0, -1)))
+            more = rule_record(0, 0, 0, 60), rule_record(9, 0, 0, -1), ref.latest_record(0, 0)
+            data += rng.choice((b"BK\1\0", b"RU", b"HR", b"CE", b"B", b"RK", *more))
     return data
 
 
@@ -359,36 +476,55 @@ def limit_files():
     for jobs in ((255, 255, 255), (256, 0, 0), (0, 256, 0), (0, 0, 256), (65535, 0, 0)):
         for k in (0, 60, OFFSET + 1):
             yield head + rule_record(*jobs, k)
-    whole = book_file(3, [(0, 1, 2, 60), (2, 1, 0, -1), (1, 1, 1, 120)])
-    for length in range(len(whole) + 1):
-        yield whole[:length]
-    for kept in (ref.book(1, [(0, 0, 0, 0)] * RULES), book_file(256, any_rules(256, RULES, OFFSET))):
-        yield kept
-        for more in (b"R", b"RU", b"HR", b"BK", b"XX", rule_record(0, 0, 0, 0), rule_record(0, 0, 0, 0) * 600):
-            yield kept + more
+    rule, time = rule_record(0, 0, 0, 60), ref.latest_record(0, -5)
+    for minute in (0, 1, -1, -OFFSET, -OFFSET - 1, 2**31 - 1, -(2**31)):
+        for job in (0, 255, 256, 65535):
+            yield head + ref.latest_record(job, minute)
+        # a second record for a job, with the same minute and another; and one behind a record for another job
+        for first in (0, minute):
+            yield head + ref.latest_record(7, first) + ref.latest_record(7, minute)
+            yield head + ref.latest_record(7, first) + ref.latest_record(8, minute) + ref.latest_record(7, first)
+    # behind a rule, whole or cut off, whatever is in it; and before the head
+    for first in (rule, time + rule, rule * 3):
+        for late in (b"CE", time, time[:7], ref.latest_record(9, 1)):
+            yield book_file(1, []) + first + late + rule
+    for early in (b"CE", time, time + book_file(1, []), time * 3000, b"C", b"EC" + time[2:]):
+        yield early
+        yield book_file(1, []) + early
+    yield book_file(1, []) + time + book_file(1, [])
+    three = [(0, 1, 2, 60), (2, 1, 0, -1), (1, 1, 1, 120)]
+    for whole in (book_file(3, three), book_file(3, three, [-1, -OFFSET, -300])):
+        for length in range(len(whole) + 1):
+            yield whole[:length]
+    most = any_rules(256, RULES, OFFSET)
+    for whole in (ref.book(1, [(0, 0, 0, 0)] * RULES), book_file(256, most), book_file(256, most, [-OFFSET] * 256)):
+        yield whole
+        for more in (b"R", b"RU", b"HR", b"CE", b"BK", b"XX", rule, rule * 600, time):
+            yield whole + more
+    whole = book_file(256, [], [-1 - job for job in range(256)])
+    for more in (b"", b"C", b"CE", time, ref.latest_record(256, 0), rule):
+        yield whole + more
     yield from (b"", b"B", b"BK", b"KB\1\0", b"RU", b"HR" * 20, b"\x42\x4b\x01\0\x52", bytes(20000), b"BK\1\0" * 5000)
 
 
 def files():
     """Books and damaged books, and those at the limits."""
-    for n, rules in small_books():
-        data = book_file(n, rules)
-        yield data
-        yield damaged(data)
-    for n, rules in large_books():
-        data = book_file(n, rules)
-        yield data
-        yield damaged(data)
+    for books in (small_books(), large_books()):
+        for book in books:
+            data = book_file(*book)
+            yield data
+            yield damaged(data)
     yield from limit_files()
 
 
 def file_calls():
     for data in files():
-        reply, rules = ref.read(data, RULES)
+        (kind, n, _), rules, _ = ref.read(data, RULES, JOBS)
         count = len(rules)
         few = len(data) < 3000
         for places in {count, rng.choice((0, count + 1, max(count - 1, 0), rng.randrange(2 * count + 3), RULES if few else count + 5))}:
-            read_book(data, places)
+            read_book(data, places, JOBS if kind else n)
+        read_book(data, count, rng.choice((0, JOBS, 300) if kind else (0, n - 1, n + 1, JOBS, rng.randrange(2 * n))))
         for rule in {0, max(count - 1, 0), rng.choice((count, MOST, rng.choice(HUGE), rng.randrange(count + 1)))}:
             if few or rule:
                 record(data, rule)
@@ -416,6 +552,8 @@ if __name__ == "__main__":
         sys.exit(print_alike(sys.argv[1]) > 0)
     classes()
     tables()
+    lists()
+    long_runs()
     initial_boards()
     plans()
     file_calls()

@@ -3,7 +3,8 @@
 //
 // A line has the call, the three words of the reply and the arguments in the order of the call, with one blank between them. Numbers
 // are hexadecimal. A buffer is `:`, its bytes as hexadecimal digits and, where the call changes it, `/` and its bytes afterwards, of
-// which `..` may be any. Its length is not written. The reply itself is lent too, and is no argument here.
+// which `..` may be any. Its length is not written. With `!` for the `:` the call is not to read it, and it is lent where nobody may. The
+// reply itself is lent too, and is no argument here.
 #define _DEFAULT_SOURCE
 #include <inttypes.h>
 #include <signal.h>
@@ -27,7 +28,7 @@ _Static_assert(offsetof(marlinfray_reply, kind) == 0 && offsetof(marlinfray_repl
                "a reply's fields stand at 0, 8 and 16");
 
 // Each buffer is lent at the start, in the middle and at the end of a room of its own.
-enum { ARGUMENTS = 5, ROOM = 1 << 15, LONGEST = ROOM - 16, SHOWN = 10 };
+enum { ARGUMENTS = 6, ROOM = 1 << 15, LONGEST = ROOM - 16, SHOWN = 10 };
 enum { START, MIDDLE, END, SPOTS };
 static const char *const spots[] = {"start", "middle", "end"};
 
@@ -35,7 +36,8 @@ typedef struct {
     uint8_t *room; // ROOM bytes that stand between two pages that nobody may touch
     uint8_t before[LONGEST], after[LONGEST], may_be_any[LONGEST];
     size_t bytes;
-    uint8_t *lent; // where in the room it is lent
+    int is_unread; // lent on the page behind the room, without bytes
+    uint8_t *lent; // where it is lent
 } Buffer;
 
 typedef struct {
@@ -48,12 +50,12 @@ static Argument args[ARGUMENTS];
 static Buffer reply;
 static uint8_t guards[ROOM]; // what stands in a room outside the buffer
 
-// The calls. `types` has a letter for each argument: n a number, b bytes, r rules, t times, a a tally.
+// The calls. `types` has a letter for each argument: n a number, b bytes, r rules, t times or latest times, a a tally.
 static const struct {
     const char *name, *types;
 } calls[] = {
-    {"read_book", "br"}, {"record", "bn"},   {"class", "nnnn"},  {"first_violated", "nrt"}, {"is_tight", "nrtn"},
-    {"initial", "nt"},   {"step", "nrtan"}, {"solve", "nrt"}, {"write_plan", "tbn"},
+    {"read_book", "brt"}, {"record", "bn"},    {"class", "nnnn"}, {"first_violated", "nrtt"}, {"is_tight", "nrttn"},
+    {"initial", "ntt"},   {"step", "nrttan"}, {"solve", "nrtt"}, {"write_plan", "tbn"},
 };
 enum { READ_BOOK, RECORD, CLASS, FIRST_VIOLATED, IS_TIGHT, INITIAL, STEP, SOLVE, WRITE_PLAN, CALLS };
 
@@ -103,8 +105,9 @@ static void read_argument(char type, const char *text, Argument *a) {
     }
     Buffer *b = &a->buffer;
     size_t after = 0;
-    if (*text++ != ':')
+    if (*text != ':' && *text != '!')
         wrong_line("an argument is no buffer");
+    b->is_unread = *text++ == '!';
     text = bytes(text, b->before, b->may_be_any, &b->bytes);
     if (*text == '/')
         text = bytes(text + 1, b->after, b->may_be_any, &after);
@@ -113,11 +116,13 @@ static void read_argument(char type, const char *text, Argument *a) {
     if (*text || after != b->bytes || b->bytes % size_of(type))
         wrong_line("a buffer is not as its argument asks");
     a->length = b->bytes / size_of(type);
+    if (b->is_unread)
+        b->bytes = 0;
 }
 
 // Lends a buffer: its bytes at that spot of the room, in the middle aligned as its type asks and no more, and guard bytes all around.
 static void lend(Buffer *b, int spot, size_t align) {
-    size_t at = spot == START ? 0 : spot == END ? ROOM - b->bytes : (ROOM - b->bytes) / 2 / 16 * 16 + align;
+    size_t at = spot == END || b->is_unread ? ROOM - b->bytes : spot == START ? 0 : (ROOM - b->bytes) / 2 / 16 * 16 + align;
     memcpy(b->room, guards, ROOM);
     b->lent = b->room + at;
     memcpy(b->lent, b->before, b->bytes);
@@ -134,27 +139,26 @@ static int is_as_expected(const Buffer *b) {
 
 static void call(int c) {
     const Argument *a = args;
-    uint8_t *lent[ARGUMENTS];
+    void *lent[ARGUMENTS];
     for (int i = 0; i < ARGUMENTS; i++)
         lent[i] = a[i].buffer.lent;
     marlinfray_reply *r = (marlinfray_reply *)reply.lent;
     switch (c) {
-    case READ_BOOK: marlinfray_read_book(lent[0], a[0].length, (marlinfray_rule *)lent[1], a[1].length, r); break;
+    case READ_BOOK: marlinfray_read_book(lent[0], a[0].length, lent[1], a[1].length, lent[2], a[2].length, r); break;
     case RECORD: marlinfray_record(lent[0], a[0].length, a[1].number, r); break;
     case CLASS: r->kind = marlinfray_class(a[0].number, a[1].number, a[2].number, a[3].number), r->first = r->second = 0; break;
     case FIRST_VIOLATED:
-        marlinfray_first_violated(a[0].number, (marlinfray_rule *)lent[1], a[1].length, (int32_t *)lent[2], a[2].length, r);
+        marlinfray_first_violated(a[0].number, lent[1], a[1].length, lent[2], a[2].length, lent[3], a[3].length, r);
         break;
     case IS_TIGHT:
-        marlinfray_is_tight(a[0].number, (marlinfray_rule *)lent[1], a[1].length, (int32_t *)lent[2], a[2].length, a[3].number, r);
+        marlinfray_is_tight(a[0].number, lent[1], a[1].length, lent[2], a[2].length, lent[3], a[3].length, a[4].number, r);
         break;
-    case INITIAL: marlinfray_initial(a[0].number, (int32_t *)lent[1], a[1].length, r); break;
+    case INITIAL: marlinfray_initial(a[0].number, lent[1], a[1].length, lent[2], a[2].length, r); break;
     case STEP:
-        marlinfray_step(a[0].number, (marlinfray_rule *)lent[1], a[1].length, (int32_t *)lent[2], a[2].length,
-                        (marlinfray_tally *)lent[3], a[4].number, r);
+        marlinfray_step(a[0].number, lent[1], a[1].length, lent[2], a[2].length, lent[3], a[3].length, lent[4], a[5].number, r);
         break;
-    case SOLVE: marlinfray_solve(a[0].number, (marlinfray_rule *)lent[1], a[1].length, (int32_t *)lent[2], a[2].length, r); break;
-    case WRITE_PLAN: marlinfray_write_plan((int32_t *)lent[0], a[0].length, lent[1], a[1].length, a[2].number, r); break;
+    case SOLVE: marlinfray_solve(a[0].number, lent[1], a[1].length, lent[2], a[2].length, lent[3], a[3].length, r); break;
+    case WRITE_PLAN: marlinfray_write_plan(lent[0], a[0].length, lent[1], a[1].length, a[2].number, r); break;
     }
 }
 
@@ -210,10 +214,10 @@ static int check(char *line) {
     return 0;
 }
 
-// A call that touches a page outside the rooms ends here.
+// A call that touches a page outside the rooms, which is also where what it is not to read is lent, ends here.
 static void outside(int unused) {
     (void)unused;
-    fprintf(stderr, "line %lu, %s: reads or writes outside what it is lent\n", line_number, call_name);
+    fprintf(stderr, "line %lu, %s: reads or writes outside what it is lent, or what it is not to read\n", line_number, call_name);
     _exit(1);
 }
 
@@ -242,7 +246,7 @@ int main(void) {
     printf("; refusals");
     int missing = 0;
     for (int i = 1; i < 27; i++) {
-        if (7 < i && i < 21)
+        if (9 < i && i < 21)
             continue;
         printf("%s %d: %lu", i > 1 ? "," : "", i, refused[i]);
         missing |= !refused[i];

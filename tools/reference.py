@@ -6,8 +6,10 @@ answer, worked out apart from the code they test.
 
 writes what the program of that name must write (without a name, `examples`).
 
-The run is the bench run of the scope: passes over the rules from 0 upward, a step on each
-broken rule, an end after a pass without a step (a plan) or when a time falls below -K (none).
+A book is its job count, its rules and its latest times, one a job: 0 where the file says nothing of the job.
+
+The run is the bench run of the scope: from the latest times, passes over the rules from 0 upward, a step on each broken rule, an end
+after a pass without a step (a plan) or when a time falls below the floor (none). The floor is the smallest latest time minus K.
 
 A reply is the library's three words (embed/marlinfray.h): 0 and the answer, 1 for a broken rule or none, 2 and a refusal.
 """
@@ -17,9 +19,23 @@ import struct
 import sys
 
 
-def book(n, rules):
-    """The bytes of a book."""
-    return struct.pack("<2sH", b"BK", n) + b"".join(struct.pack("<2sHHHi", b"RU", *r) for r in rules)
+MOST_JOBS, MOST_RULES, MOST_MINUTES = 256, 1024, 20160
+
+
+def book(n, rules, latest=None):
+    """The bytes of a book: a record for each latest time other than 0, in the order of the jobs, and then the rules."""
+    times = [latest_record(job, minute) for job, minute in enumerate(latest or []) if minute]
+    return struct.pack("<2sH", b"BK", n) + b"".join(times + [rule_record(*r) for r in rules])
+
+
+def latest_record(job, minute):
+    """The record of a job's latest time."""
+    return struct.pack("<2sHi", b"CE", job, minute)
+
+
+def rule_record(x, y, z, k):
+    """The record of a rule, by its minutes."""
+    return struct.pack("<2sHHHi", b"RU", x, y, z, k)
 
 
 def rule_of(part):
@@ -40,14 +56,19 @@ def total(rules):
     return sum(abs(k) for _, _, _, k in rules)
 
 
+def floor(rules, latest):
+    """The smallest latest time minus K: a board with a time below it shows none."""
+    return min(latest) - total(rules)
+
+
 def broken(rules, times):
     """The numbers of the broken rules."""
     return [i for i, r in enumerate(rules) if times[r[2]] > left(r, times)]
 
 
-def run(n, rules):
+def run(rules, latest):
     """The times at the end, the steps, and the job that fell or None."""
-    times, steps, floor = [0] * n, 0, -total(rules)
+    times, steps, lowest = list(latest), 0, floor(rules, latest)
     while True:
         before = steps
         for rule in rules:
@@ -55,7 +76,7 @@ def run(n, rules):
             if times[z] > left(rule, times):
                 times[z] = left(rule, times)
                 steps += 1
-                if times[z] < floor:
+                if times[z] < lowest:
                     return times, steps, z
         if steps == before:
             return times, steps, None
@@ -63,11 +84,11 @@ def run(n, rules):
 
 def text(data):
     """What `latest` prints for a file."""
-    reply, rules = read(data, 1024)
+    reply, rules, latest = read(data, MOST_RULES, MOST_JOBS)
     if reply[0] == 2:
         return "REFUSED %d %d\n" % reply[1:]
     n = reply[1]
-    times, steps, fell = run(n, rules)
+    times, steps, fell = run(rules, latest)
     lines = ["BOOK %d %d %d" % (n, len(rules), total(rules))]
     if fell is None:
         lines += ["JOB %d %d" % item for item in enumerate(times)]
@@ -80,16 +101,20 @@ def text(data):
 
 B = [(0, 0, 1, -10), (3, 3, 2, 0), (1, 2, 3, -1), (1, 0, 3, 25)]
 EXAMPLES = {
-    "A": (1, []),
-    "B": (4, B),
-    "C": (4, B + [(1, 2, 0, 9)]),
-    "D": (1, [(0, 0, 0, -1)]),
-    "E": (1, [(0, 0, 0, 0)]),
-    "F": (2, [(0, 1, 0, -1)]),
-    "G": (2, [(0, 0, 1, -5)]),
-    "H": (2, [(0, 0, 1, 5)]),
-    "I": (2, [(0, 0, 1, -1), (1, 1, 0, 0)]),
-    "J": (2, [(0, 0, 1, -1), (1, 1, 0, 1)]),
+    "A": (1, [], [0]),
+    "B": (4, B, [0] * 4),
+    "C": (4, B + [(1, 2, 0, 9)], [0] * 4),
+    "D": (1, [(0, 0, 0, -1)], [0]),
+    "E": (1, [(0, 0, 0, 0)], [0]),
+    "F": (2, [(0, 1, 0, -1)], [0] * 2),
+    "G": (2, [(0, 0, 1, -5)], [0] * 2),
+    "H": (2, [(0, 0, 1, 5)], [0] * 2),
+    "I": (2, [(0, 0, 1, -1), (1, 1, 0, 0)], [0] * 2),
+    "J": (2, [(0, 0, 1, -1), (1, 1, 0, 1)], [0] * 2),
+    # Latest times other than zero: a plan with no job at zero, none, and a job that no rule but its latest time holds.
+    "P": (2, [(0, 0, 1, -4)], [-3, -5]),
+    "Q": (2, [(0, 0, 1, -1), (1, 1, 0, 0)], [-2, 0]),
+    "R": (2, [], [0, -60]),
 }
 
 
@@ -124,12 +149,12 @@ ORDERS = {
 }
 
 
-def by_hand(n, rules, order):
-    """Hand steps in an order, until no rule is broken or a time is below -K: the times and the steps."""
-    times, steps = [0] * n, 0
+def by_hand(rules, latest, order):
+    """Hand steps in an order, until no rule is broken or a time is below the floor: the times and the steps."""
+    times, steps = list(latest), 0
     for turn in itertools.count():
         numbers = broken(rules, times)
-        if not numbers or min(times) < -total(rules):
+        if not numbers or min(times) < floor(rules, latest):
             return times, steps
         number = order(turn, numbers)
         if number in numbers:
@@ -137,60 +162,80 @@ def by_hand(n, rules, order):
             steps += 1
 
 
-def latest(n, rules):
-    """The latest times from -6 to 0 that keep all rules, by search; None if there are none."""
-    models = [t for t in itertools.product(range(-6, 1), repeat=n) if not broken(rules, t)]
-    return list(map(max, zip(*models))) or None
+def searched(keeping):
+    """The plan, by search, from the times that keep each of what is asked: the latest time of each job; None if there are no such times."""
+    return list(map(max, zip(*set.intersection(*keeping)))) or None
 
 
 def small_books(n, count):
-    """All books of `count` rules with offsets -1 to 1, by hand steps in each order."""
+    """All books of `count` rules with offsets -1 to 1, with latest times -2 to 0 that ascend, by hand steps in each order. The search is
+    over all times from -6 up to the latest times."""
     rules = list(itertools.product(range(n), range(n), range(n), (-1, 0, 1)))
-    books = list(itertools.product(rules, repeat=count))
-    plans = [latest(n, b) for b in books]
-    nones = plans.count(None)
+    times = list(itertools.product(range(-6, 1), repeat=n))
+    keeping = {rule: {t for t in times if not broken([rule], t)} for rule in rules}
+    lists = itertools.combinations_with_replacement((-2, -1, 0), n)
+    before = {latest: {t for t in times if all(a <= b for a, b in zip(t, latest))} for latest in lists}
+    books = []
+    for b in itertools.product(rules, repeat=count):
+        books += [(b, latest, searched([under, *(keeping[rule] for rule in b)])) for latest, under in before.items()]
+    nones = sum(plan is None for _, _, plan in books)
     out = ""
     for name, order in ORDERS.items():
-        ends = [by_hand(n, b, order) for b in books]
-        differing = 0
-        for b, plan, (times, _) in zip(books, plans, ends):
-            differing += min(times) >= -total(b) if plan is None else times != plan
-        out += "%s JOBS %d RULES %d BOOKS %d PLANS %d NONES %d STEPS %d DIFFERING %d\n" % (
-            name, n, count, len(books), len(books) - nones, nones, sum(s for _, s in ends), differing,
+        taken = differing = 0
+        for b, latest, plan in books:
+            end, steps = by_hand(b, latest, order)
+            taken += steps
+            differing += min(end) >= floor(b, latest) if plan is None else end != plan
+        out += "JOBS %d RULES %d %s BOOKS %d PLANS %d NONES %d STEPS %d DIFFERING %d\n" % (
+            n, count, name, len(books), len(books) - nones, nones, taken, differing,
         )
     return out
 
 
+SIZES = {b"BK": 4, b"CE": 8, b"RU": 12, b"HR": 10}
+
+
 def scan(data):
-    """The reader's walk through a file: the number and the byte of the first fault, or None; the job count; and for each rule the
+    """The reader's walk through a file: the number and the byte of the first fault, or None; the latest times; and for each rule the
     byte where its record begins, the record's length and the rule."""
-    at, n, found = 0, None, []
-    while at < len(data) or n is None:
+    at, latest, said, found = 0, None, set(), []
+    while at < len(data) or latest is None:
         mark = data[at : at + 2]
         if len(mark) < 2:
-            return (1, at), n, found
-        if mark not in (b"BK", b"RU", b"HR"):
-            return (2, at), n, found
-        if (mark == b"BK") != (n is None):
-            return (3, at), n, found
-        if len(found) == 1024:
-            return (5, at), n, found
-        size = {b"BK": 4, b"RU": 12, b"HR": 10}[mark]
+            return (1, at), latest, found
+        if mark not in SIZES:
+            return (2, at), latest, found
+        if (mark == b"BK") != (latest is None) or (mark == b"CE" and found):
+            return (3, at), latest, found
+        if mark in (b"RU", b"HR") and len(found) == MOST_RULES:
+            return (5, at), latest, found
+        size = SIZES[mark]
         if at + size > len(data):
-            return (1, at), n, found
+            return (1, at), latest, found
         if mark == b"BK":
             n = struct.unpack_from("<H", data, 2)[0]
-            if not 1 <= n <= 256:
-                return (4, at), n, found
+            if not 1 <= n <= MOST_JOBS:
+                return (4, at), latest, found
+            latest = [0] * n
+        elif mark == b"CE":
+            job, minute = struct.unpack_from("<Hi", data, at + 2)
+            if job >= len(latest):
+                return (6, at), latest, found
+            if not -MOST_MINUTES <= minute <= 0:
+                return (8, at), latest, found
+            if job in said:
+                return (9, at), latest, found
+            said.add(job)
+            latest[job] = minute
         else:
             rule = rule_of(data[at : at + size])
-            if max(rule[:3]) >= n:
-                return (6, at), n, found
-            if abs(rule[3]) > 20160:
-                return (7, at), n, found
+            if max(rule[:3]) >= len(latest):
+                return (6, at), latest, found
+            if abs(rule[3]) > MOST_MINUTES:
+                return (7, at), latest, found
             found.append((at, size, rule))
         at += size
-    return None, n, found
+    return None, latest, found
 
 
 def refused(f):
@@ -198,12 +243,13 @@ def refused(f):
     return (2,) + f
 
 
-def read(data, places):
-    """The reader: its reply, and the rules where the file is not refused."""
-    f, n, found = scan(data)
-    if not f and places < len(found):
+def read(data, places, latest_places):
+    """The reader, with so many places for rules and for latest times: its reply, and the rules and the latest times, a job each, where
+    the file is not refused."""
+    f, latest, found = scan(data)
+    if not f and (places < len(found) or latest_places < len(latest)):
         f = 21, 0
-    return (refused(f), []) if f else ((0, n, len(found)), [rule for _, _, rule in found])
+    return (refused(f), [], []) if f else ((0, len(latest), len(found)), [rule for _, _, rule in found], latest)
 
 
 def record(data, number):
@@ -212,61 +258,76 @@ def record(data, number):
     return (0,) + found[number][:2] if not f and number < len(found) else (0, 0, 0)
 
 
-def fault(n, rules, times):
+def fault(n, rules, latest, times):
     """The refusals that all calls on a table have: number and place, or None."""
-    if not 1 <= n <= 256:
+    if not 1 <= n <= MOST_JOBS:
         return 4, 0
-    if len(rules) > 1024:
+    if len(rules) > MOST_RULES:
         return 5, 0
     for i, (x, y, z, k) in enumerate(rules):
         if max(x, y, z) >= n:
             return 6, i
-        if abs(k) > 20160:
+        if abs(k) > MOST_MINUTES:
             return 7, i
+    if len(latest) != n:
+        return 21, 0
+    for job, minute in enumerate(latest):
+        if not -MOST_MINUTES <= minute <= 0:
+            return 8, job
     return None if len(times) == n else (21, 0)
 
 
-def initial(n, buffer):
-    """The fresh board: the reply, and the buffer afterwards."""
-    f = fault(n, [], buffer)
-    return (refused(f), buffer) if f else ((0, 0, 0), [0] * n)
+def initial(n, latest, times):
+    """The fresh board: the reply, and the times afterwards."""
+    f = fault(n, [], latest, times)
+    return (refused(f), times) if f else ((0, 0, 0), list(latest))
 
 
-def solved(n, rules, buffer):
-    """The bench run: its reply, and the buffer afterwards."""
-    f = fault(n, rules, buffer)
+def solved(n, rules, latest, times):
+    """The bench run: its reply, and the times afterwards."""
+    f = fault(n, rules, latest, times)
     if f:
-        return refused(f), buffer
-    times, steps, fell = run(n, rules)
-    return ((0, steps, 0) if fell is None else (1, steps, fell)), times
+        return refused(f), times
+    after, steps, fell = run(rules, latest)
+    return ((0, steps, 0) if fell is None else (1, steps, fell)), after
 
 
-def kept(n, rules, times):
-    f = fault(n, rules, times)
+def kept(n, rules, latest, times):
+    f = fault(n, rules, latest, times)
     if f:
         return refused(f)
     at = broken(rules, times)
     return (1, at[0], 0) if at else (0, 0, 0)
 
 
-def tight(n, rules, times, number):
-    f = fault(n, rules, times) or ((24, 0) if number >= len(rules) else None)
+def tight(n, rules, latest, times, number):
+    f = fault(n, rules, latest, times) or ((24, 0) if number >= len(rules) else None)
     if f:
         return refused(f)
     return 0, int(left(rules[number], times) == times[rules[number][2]]), 0
 
 
-def step(n, rules, times, tally, number):
+def depth(latest, times):
+    """The minutes by which the times stand below the latest times, in all."""
+    return sum(latest) - sum(times)
+
+
+def legal(rules, latest, times):
+    """Whether each time is from the smallest latest time minus 2K up to the job's own."""
+    lowest = floor(rules, latest) - total(rules)
+    return all(lowest <= t <= last for last, t in zip(latest, times))
+
+
+def step(n, rules, latest, times, tally, number):
     """A hand step: its reply, and the times and the tally afterwards."""
-    k = total(rules)
-    f = fault(n, rules, times)
-    if not f and not all(-2 * k <= t <= 0 for t in times):
+    f = fault(n, rules, latest, times)
+    if not f and not legal(rules, latest, times):
         f = 22, 0
-    if not f and (tally[1] != -sum(times) or tally[0] > tally[1]):
+    if not f and (tally[1] != depth(latest, times) or tally[0] > tally[1]):
         f = 23, 0
     if not f and number >= len(rules):
         f = 24, 0
-    if not f and min(times) < -k:
+    if not f and min(times) < floor(rules, latest):
         f = 25, 0
     if not f and number not in broken(rules, times):
         f = 26, 0
@@ -280,7 +341,7 @@ def step(n, rules, times, tally, number):
 
 def write_plan(times, out, at):
     """The plan writer: its reply, and the bytes afterwards."""
-    f = (4, 0) if not 1 <= len(times) <= 256 else (21, 0) if at > len(out) - 8 * len(times) else None
+    f = (4, 0) if not 1 <= len(times) <= MOST_JOBS else (21, 0) if at > len(out) - 8 * len(times) else None
     if f:
         return refused(f), out
     part = b"".join(struct.pack("<2sHi", b"PL", *item) for item in enumerate(times))
@@ -326,64 +387,138 @@ def step_word(reply):
     return words(reply, " STEPPED")
 
 
+def fresh_word(reply):
+    return words(reply, " FRESH")
+
+
+def minutes_word(word, minutes):
+    return " " + word + "".join(" %d" % t for t in minutes)
+
+
 def times_word(times):
-    return " TIMES" + "".join(" %d" % t for t in times)
+    return minutes_word("TIMES", times)
+
+
+def latest_word(latest):
+    return minutes_word("LATEST", latest)
 
 
 def tally_word(tally):
     return " TALLY %d %d" % tally
 
 
-def bench_line(n, rules):
-    """The classes, the bench run, and the kept and the tight test on what it leaves."""
-    reply, times = solved(n, rules, [0] * n)
-    out = " BOOK %d %d" % (n, len(rules)) + "".join(CLASSES[class_of(*r)] for r in rules) + solved_word(reply) + times_word(times)
-    return out + kept_word(kept(n, rules, times)) + "".join(tight_word(tight(n, rules, times, i)) for i in range(len(rules)))
+def bench_line(n, rules, latest):
+    """The latest times, the classes, the bench run, and the kept and the tight test on what it leaves."""
+    reply, times = solved(n, rules, latest, [7] * n)
+    out = " BOOK %d %d" % (n, len(rules)) + latest_word(latest) + "".join(CLASSES[class_of(*r)] for r in rules)
+    out += solved_word(reply) + times_word(times) + kept_word(kept(n, rules, latest, times))
+    return out + "".join(tight_word(tight(n, rules, latest, times, i)) for i in range(len(rules)))
 
 
-def hand_line(n, rules):
-    """Three rounds of hand steps from a fresh board, on each rule and then on none."""
-    times, tally, out = [0] * n, (0, 0), ""
+def hand_line(n, rules, latest):
+    """A fresh board, and three rounds of hand steps on it, on each rule and then on none."""
+    reply, times = initial(n, latest, [7] * n)
+    tally, out = (0, 0), fresh_word(reply)
     for number in list(range(len(rules) + 1)) * 3:
-        reply, times, tally = step(n, rules, times, tally, number)
+        reply, times, tally = step(n, rules, latest, times, tally, number)
         out += step_word(reply)
     return out + times_word(times) + tally_word(tally)
 
 
-def reading_line(data, places):
-    return " PLACES %d" % places + read_word(read(data, places)[0])
+def reading_line(data, places, latest_places):
+    """The reader, and the table and the list that it leaves, whose places held sevens."""
+    reply, rules, latest = read(data, places, latest_places)
+    rules = rules + [(7, 7, 7, 7)] * (places - len(rules))
+    latest = latest + [7] * (latest_places - len(latest))
+    table = " TABLE" + "".join(" %d %d %d %d" % rule for rule in rules)
+    return " PLACES %d %d" % (places, latest_places) + read_word(reply) + table + latest_word(latest)
 
 
-def limit_line(n, rule, count, length):
-    """The calls on `count` times one rule, with buffers of a length."""
-    rules = [rule] * count
-    reply, times = solved(n, rules, [0] * length)
-    out = "LIMIT %d %d %d %d %d %d %d" % ((n,) + rule + (count, length)) + solved_word(reply)
-    out += kept_word(kept(n, rules, times)) + tight_word(tight(n, rules, times, 0))
-    reply, _, tally = step(n, rules, [0] * length, (0, 0), 0)
-    return out + step_word(reply) + tally_word(tally)
+def each_call(n, rules, latest, length):
+    """Each call that takes latest times, with buffers of a length: the words, and the times and the board that are left."""
+    reply, times = solved(n, rules, latest, [7] * length)
+    out = solved_word(reply) + kept_word(kept(n, rules, latest, times)) + tight_word(tight(n, rules, latest, times, 0))
+    reply, board = initial(n, latest, [7] * length)
+    out += fresh_word(reply)
+    reply, board, tally = step(n, rules, latest, board, (0, 0), 0)
+    return out + step_word(reply) + tally_word(tally), times, board
 
 
-def held_line(time, tally, number):
-    """A hand step on example D's book."""
-    reply, times, after = step(1, [(0, 0, 0, -1)], [time], tally, number)
-    return "HELD" + times_word([time]) + tally_word(tally) + " %d" % number + step_word(reply) + times_word(times) + tally_word(after)
+def limit_line(n, rule, count, minute, length):
+    """The calls on `count` times one rule, with one latest time for all jobs, and with list and buffers of a length."""
+    out, _, _ = each_call(n, [rule] * count, [minute] * length, length)
+    return "LIMIT %d %d %d %d %d %d %d %d" % ((n,) + rule + (count, minute, length)) + out
+
+
+def list_line(n, rule, latest, length):
+    """The calls on one rule with a list of latest times, and with buffers of a length."""
+    out, times, board = each_call(n, [rule], latest, length)
+    out = "LIST %d %d %d %d %d %d" % ((n,) + rule + (length,)) + latest_word(latest) + out
+    return out + times_word(times) + minutes_word("BOARD", board)
+
+
+def most_line():
+    """A book of 256 jobs, each with a latest time of its own."""
+    data = book(256, []) + b"".join(latest_record(job, -79 * job) for job in range(256)) + rule_record(0, 1, 255, -1)
+    reply, rules, latest = read(data, 1, 257)
+    out, _, _ = each_call(256, rules, latest, 256)
+    return "MOST" + read_word(reply) + latest_word(latest + [7]) + out
+
+
+def held_line(latest, times, tally, number):
+    """A hand step on example D's rule."""
+    reply, after, tally_after = step(len(times), [(0, 0, 0, -1)], latest, times, tally, number)
+    out = "HELD" + latest_word(latest) + times_word(times) + tally_word(tally) + " %d" % number + step_word(reply)
+    return out + times_word(after) + tally_word(tally_after)
+
+
+def latest_limits():
+    """Files with latest times at and past the limits, each under its name."""
+    yield "minute -20160", book(2, []) + latest_record(1, -20160)
+    yield "minute -20161", book(2, []) + latest_record(1, -20161)
+    yield "minute 0", book(2, []) + latest_record(1, 0)
+    yield "minute 1", book(2, []) + latest_record(1, 1)
+    yield "job 2 of 2", book(2, []) + latest_record(2, 0)
+    yield "job 2 of 2, minute 1", book(2, []) + latest_record(2, 1)
+    yield "a second", book(2, [], [0, -1]) + latest_record(1, -1)
+    yield "a second, minute 1", book(2, [], [0, -1]) + latest_record(1, 1)
+    yield "after a rule", book(2, [(0, 0, 1, -1)]) + latest_record(1, -1)
+    yield "after a rule, cut off", book(2, [(0, 0, 1, -1)]) + b"CE"
+    yield "before the head", latest_record(1, -1) + book(2, [])
+
+
+EARLIEST = book(2, [], [0, -20160])
 
 
 def calls():
     """The examples and the limits through the planner's public calls, a line a case."""
-    l = 2, [(0, 1, 0, -1), (0, 0, 1, -3)]
-    lines = [k + line(*v) for k, v in [*EXAMPLES.items(), ("L", l)] for line in (bench_line, hand_line)]
+    l = 2, [(0, 1, 0, -1), (0, 0, 1, -3)], [0, 0]
+    books = [*EXAMPLES.items(), ("L", l)]
+    lines = [k + line(*v) for k, v in sorted(books) for line in (bench_line, hand_line)]
     reply, times, tally = step(*l, [0, -3], (1, 3), 0)
     lines.append("L" + step_word(reply) + times_word(times) + tally_word(tally) + kept_word(kept(*l, times)))
-    lines += ["B" + reading_line(book(4, B), places) for places in (3, 4)]
-    idle = 0, 0, 0, 0
-    lines += [limit_line(n, idle, 0, n) for n in (0, 1, 256, 257)]
-    lines += [limit_line(1, idle, count, 1) for count in (1024, 1025)]
-    lines += [limit_line(2, (0, 0, 1, k), 1, 2) for k in (20160, 20161, -20160, -20161)]
-    lines += [limit_line(256, (0, 0, z, -1), 1, 256) for z in (255, 256)]
-    lines += [limit_line(2, (0, 0, 1, -1), 1, length) for length in (1, 3)]
-    lines += [held_line(*c) for c in ((1, (0, 0), 0), (-3, (3, 3), 0), (-1, (0, 0), 0), (-1, (2, 1), 0), (-1, (1, 1), 1), (-2, (2, 2), 0), (-1, (1, 1), 0))]
+    lines += ["B" + reading_line(book(*EXAMPLES["B"]), *c) for c in ((3, 4), (4, 3), (4, 4), (5, 5))]
+    lines += ["P" + reading_line(book(*EXAMPLES["P"]), *c) for c in ((0, 2), (1, 1), (1, 2), (2, 3))]
+    lines += [name + reading_line(data, 1, 3) for name, data in latest_limits()]
+    lines += ["cut off at %d" % length + reading_line(EARLIEST[:length], 1, 3) for length in range(len(EARLIEST) + 1)]
+    lines.append(most_line())
+    idle, down = (0, 0, 0, 0), (0, 0, 1, -1)
+    lines += [limit_line(n, idle, 0, 0, n) for n in (0, 1, 256, 257)]
+    lines.append(limit_line(257, idle, 0, 1, 257))
+    lines += [limit_line(1, idle, *c, 1) for c in ((1024, 0), (1025, 0), (1025, 1))]
+    lines += [limit_line(2, (0, 0, 1, k), 1, 0, 2) for k in (20160, 20161, -20160, -20161)]
+    lines += [limit_line(256, (0, 0, z, -1), 1, 0, 256) for z in (255, 256)]
+    lines += [limit_line(256, (0, 0, 255, -20160), 1024, minute, 256) for minute in (-20160, -20161, 0, 1)]
+    lines += [list_line(2, down, latest, length) for length in (1, 2, 3) for latest in ([0, 0], [0, 1])]
+    lines += [list_line(2, down, latest, 2) for latest in ([0], [0, 0, 0], [1], [1, 1, 1], [-5, -3])]
+    lines += [list_line(2, down, latest, 2) for latest in ([0, -20160], [0, -20161], [-20161, 1], [-20160, 0])]
+    lines += [list_line(2, (0, 0, 1, -20161), latest, 2) for latest in ([0, 1], [1])]
+    lines += [list_line(2, (0, 0, 2, -1), [1, 1], 2), list_line(0, down, [1], 2), list_line(257, down, [1, 1], 2)]
+    for c in ((1, (0, 0), 0), (-3, (3, 3), 0), (-1, (0, 0), 0), (-1, (2, 1), 0), (-1, (1, 1), 1), (-2, (2, 2), 0), (-1, (1, 1), 0)):
+        lines.append(held_line([0], [c[0]], *c[1:]))
+    for c in ((-4, (0, 0), 0), (-8, (3, 3), 0), (-6, (1, 0), 0), (-6, (1, 6), 0), (-6, (1, 1), 1), (-7, (2, 2), 0), (-6, (1, 1), 0)):
+        lines.append(held_line([-5], [c[0]], *c[1:]))
+    lines += [held_line([0, -5], list(times), (0, -times[0]), 0) for times in ((0, -4), (0, -5), (-6, -5), (-7, -5), (-8, -5))]
     return "\n".join(lines) + "\n"
 
 
@@ -391,16 +526,20 @@ def limits():
     """Files and plans at and past each limit: what the reader and the plan writer answer."""
 
     def reads(data):
-        return read_word(read(data, 1024)[0])
+        return read_word(read(data, MOST_RULES, MOST_JOBS)[0])
 
     def writes(n, at):
         return words(write_plan([0] * n, bytes(2048), at)[0], " WRITTEN")
 
     lines = ["jobs %d:" % n + reads(book(n, [])) for n in (0, 1, 256, 257)]
-    lines += ["rules %d:" % count + reads(book(1, [(0, 0, 0, 0)] * count)) for count in (1024, 1025)]
+    for times, count in ((0, 1024), (0, 1025), (256, 1024), (256, 1025), (257, 0)):
+        data = book(256, []) + b"".join(latest_record(i % 256, -20160) for i in range(times)) + rule_record(0, 0, 0, 0) * count
+        lines.append("latest times %d, rules %d:" % (times, count) + reads(data))
     lines += ["offset bits %d:" % (k % 2**32) + reads(book(1, [(0, 0, 0, k)])) for k in (20160, 20161, -20160, -20161)]
     lines += ["hours bits %d:" % (h % 2**16) + reads(book(1, []) + struct.pack("<2sHHHh", b"HR", 0, 0, 0, h)) for h in (336, 337, -336, -337)]
     lines += ["job of 256, %d:" % z + reads(book(256, [(0, 0, z, 0)])) for z in (255, 256)]
+    lines += ["latest times, %s:" % name + reads(data) for name, data in latest_limits()]
+    lines += ["cut off at %d:" % length + reads(EARLIEST[:length]) for length in range(len(EARLIEST) + 1)]
     lines += ["42 4B 01 00 52:" + reads(b"\x42\x4b\x01\0\x52"), "no byte:" + reads(b"")]
     lines += ["times %d at %d:" % c + writes(*c) for c in ((0, 0), (1, 0), (256, 0), (256, 1), (257, 0), (1, 2040), (1, 2041), (1, 2049), (1, 2**64 - 1))]
     return "\n".join(lines) + "\n"
@@ -409,7 +548,7 @@ def limits():
 def examples():
     """The examples: their texts, the hand steps of L and the records of B."""
     out = "".join(letter + "\n" + text(book(*b)) for letter, b in EXAMPLES.items())
-    return out + "L\n" + hand() + "B\n" + records(book(4, B), range(5))
+    return out + "L\n" + hand() + "B\n" + records(book(*EXAMPLES["B"]), range(5)) + "P\n" + records(book(*EXAMPLES["P"]), range(2))
 
 
 PROGRAMS = {
@@ -417,7 +556,7 @@ PROGRAMS = {
     "calls": calls,
     "limits": limits,
     "small_books": lambda: "".join(small_books(n, count) for n, count in ((2, 0), (2, 1), (2, 2), (3, 2))),
-    "latest": lambda: text(book(4, B)),
+    "latest": lambda: text(book(*EXAMPLES["B"])),
 }
 
 if __name__ == "__main__":

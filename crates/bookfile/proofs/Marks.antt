@@ -1,82 +1,125 @@
 -- What a mark's word is, by its tests. Assumes nothing.
-use mathlib.Core.Path.{◌≡◌, refl, sym, ◌∙◌}
+use mathlib.Core.Path.{◌≡◌, refl, sym, ap, ◌∙◌}
 use mathlib.Core.Bool.{Bool, true, false, cond, not, ◌||◌}
 use Prim.Native.Nat.{ℕ}
-use native.Mathlib.Decide.{ℕ_discrete}
-use borrow.Author.Tests.{ne_eqb}
-use Rattle.std.specs.Result.{result_eq}
+use borrow.Author.Tests.{eqb-true, ne_eqb}
 use lib.Dec.{eqb}
+use denote.Enum.Bare.{sameb}
 use Rattle.std.specs.Prelude.{Result, Ok, Err}
+use Rattle.std.specs.Result.{result_eq}
 use Rattle.derivation.specs.declared.Fault.{Fault}
 use Rattle.derivation.specs.declared.Fault.TheVariants.{UnknownMark}
-use Rattle.bookfile.specs.Reading.{BK, RU, HR, known}
-use Rattle.bookfile.specs.Marks.{mark_of}
-use denote.Enum.Bare.{sameb}
+use Rattle.bookfile.specs.Kinds.{BK, CE, RU, HR, rule_marks, marks, among}
+use Rattle.bookfile.specs.Marks.{mark_of, is_rule}
 use Rattle.bookfile.specs.contracts.mark.Mark.{the_type}
+use Rattle.bookfile.specs.contracts.mark.MarkPartialEq.TheImpl.{eq-value}
 use Rattle.bookfile.specs.declared.mark.Mark.{Mark}
-use Rattle.bookfile.specs.declared.mark.Mark.TheVariants.{Book, Rule, Hours}
+use Rattle.bookfile.specs.declared.mark.Mark.TheVariants.{Book, Latest, Rule, Hours}
 
-abbrev by : Bool → Bool → Bool → Result Mark Fault
-by p q r = cond p (Ok Book) (cond q (Ok Rule) (cond r (Ok Hours) (Err UnknownMark)))
+abbrev by : Bool → Bool → Bool → Bool → Result Mark Fault
+by p q r s = cond p (Ok Book) (cond q (Ok Latest) (cond r (Ok Rule) (cond s (Ok Hours) (Err UnknownMark))))
 
--- a mark that is unknown, the book's, and a rule's
+-- the word of a mark
+abbrev pub word_of : Mark → ℕ
+word_of Book = BK.mark
+word_of Latest = CE.mark
+word_of Rule = RU.mark
+word_of Hours = HR.mark
+
+mark_word : (mark : Mark) → mark_of (word_of mark) ≡ Ok mark
+unfolding mark_of
+mark_word Book = refl
+mark_word Latest = refl
+mark_word Rule = refl
+mark_word Hours = refl
+
 module _ (word : ℕ) where
-  pub unknown : {fault : Fault} → mark_of word ≡ Err fault → (fault ≡ UnknownMark) × (not (known word) ≡ true)
-  unfolding mark_of known
-  unknown {fault} e = go (eqb word BK) (eqb word RU) (eqb word HR) e
+  pub unknown : {fault : Fault} → mark_of word ≡ Err fault → (fault ≡ UnknownMark) × (not (among word marks) ≡ true)
+  unfolding mark_of among
+  unknown {fault} e = go (eqb word BK.mark) (eqb word CE.mark) (eqb word RU.mark) (eqb word HR.mark) e
     where
-      go : (p q r : Bool) → by p q r ≡ Err fault → (fault ≡ UnknownMark) × (not (p || (q || r)) ≡ true)
-      go true q r e = absurd (cc)
-      go false true r e = absurd (cc)
-      go false false true e = absurd (cc)
-      go false false false e = (cc, refl)
+      go : (p q r s : Bool) → by p q r s ≡ Err fault → (fault ≡ UnknownMark) × (not (p || (q || (r || (s || false)))) ≡ true)
+      go true q r s e = absurd (cc)
+      go false true r s e = absurd (cc)
+      go false false true s e = absurd (cc)
+      go false false false true e = absurd (cc)
+      go false false false false e = (cc, refl)
 
-  pub book : mark_of word ≡ Ok Book → (not (known word) ≡ false) × (eqb word BK ≡ true)
-  unfolding mark_of known
-  book e = go (eqb word BK) (eqb word RU) (eqb word HR) e
-    where
-      go : (p q r : Bool) → by p q r ≡ Ok Book → (not (p || (q || r)) ≡ false) × (p ≡ true)
-      go true q r e = (refl, refl)
-      go false true r e = absurd (cc)
-      go false false true e = absurd (cc)
-      go false false false e = absurd (cc)
+  module _ {mark : Mark} (e : mark_of word ≡ Ok mark) where
+    word_is : word ≡ word_of mark
+    unfolding mark_of
+    word_is = go (eqb word BK.mark) refl (eqb word CE.mark) refl (eqb word RU.mark) refl (eqb word HR.mark) refl e
+      where
+        go : (p : Bool) → eqb word BK.mark ≡ p → (q : Bool) → eqb word CE.mark ≡ q → (r : Bool) → eqb word RU.mark ≡ r → (s : Bool) →
+            eqb word HR.mark ≡ s →
+            by p q r s ≡ Ok mark → word ≡ word_of mark
+        go true a q b r c s d e = let m : Book ≡ mark = cc in eqb-true word BK.mark a ∙ ap word_of m
+        go false a true b r c s d e = let m : Latest ≡ mark = cc in eqb-true word CE.mark b ∙ ap word_of m
+        go false a false b true c s d e = let m : Rule ≡ mark = cc in eqb-true word RU.mark c ∙ ap word_of m
+        go false a false b false c true d e = let m : Hours ≡ mark = cc in eqb-true word HR.mark d ∙ ap word_of m
+        go false a false b false c false d e = absurd (cc)
 
-  pub rules_mark : {mark : Mark} → mark_of word ≡ Ok mark → (mark ≡ Book → ⊥) → (not (known word) ≡ false) × (eqb word BK ≡ false)
-  unfolding mark_of known
-  rules_mark {mark} e other = go (eqb word BK) (eqb word RU) (eqb word HR) e
-    where
-      go : (p q r : Bool) → by p q r ≡ Ok mark → (not (p || (q || r)) ≡ false) × (p ≡ false)
-      go true q r e = absurd (other (cc))
-      go false true r e = (refl, refl)
-      go false false true e = (refl, refl)
-      go false false false e = absurd (cc)
+    -- a mark is known, and is that of a rule, or of a book's first record, as the tests on its word say
+    pub known : not (among word marks) ≡ false
+    unfolding among
+    known = rw word_is (go mark)
+      where
+        go : (m : Mark) → not (among (word_of m) marks) ≡ false
+        go Book = refl
+        go Latest = refl
+        go Rule = refl
+        go Hours = refl
+
+    pub of_rule : among word rule_marks ≡ is_rule mark
+    unfolding among
+    of_rule = rw word_is (go mark)
+      where
+        go : (m : Mark) → among (word_of m) rule_marks ≡ is_rule m
+        go Book = refl
+        go Latest = refl
+        go Rule = refl
+        go Hours = refl
+
+    pub of_book : eqb word BK.mark ≡ sameb the_type mark Book
+    of_book = rw word_is (go mark)
+      where
+        go : (m : Mark) → eqb (word_of m) BK.mark ≡ sameb the_type m Book
+        go Book = refl
+        go Latest = refl
+        go Rule = refl
+        go Hours = refl
 
 -- what is said of a word that was read
 pub said_of : {said reply : Result Mark Fault} {first word : ℕ} → said ≡ mark_of first → first ≡ word → said ≡ reply → mark_of word ≡ reply
 said_of e f s = rw (← f) (sym e ∙ s)
 
--- the test of two marks
-pub is_book : (mark : Mark) → sameb the_type mark Book ≡ true → mark ≡ Book
-is_book Book e = refl
-is_book Rule e = cc
-is_book Hours e = cc
+-- two marks are the same as their words are
+same_words : (k m : Mark) → eq-value.it k m ≡ eqb (word_of k) (word_of m)
+same_words Book Book = refl
+same_words Book Latest = refl
+same_words Book Rule = refl
+same_words Book Hours = refl
+same_words Latest Book = refl
+same_words Latest Latest = refl
+same_words Latest Rule = refl
+same_words Latest Hours = refl
+same_words Rule Book = refl
+same_words Rule Latest = refl
+same_words Rule Rule = refl
+same_words Rule Hours = refl
+same_words Hours Book = refl
+same_words Hours Latest = refl
+same_words Hours Rule = refl
+same_words Hours Hours = refl
 
-pub is_rule : (mark : Mark) → sameb the_type mark Book ≡ false → mark ≡ Book → ⊥
-is_rule Book e q = absurd (cc)
-is_rule Rule e q = absurd (cc)
-is_rule Hours e q = absurd (cc)
-
--- a test of marks that tells a rule in hours from the others
-pub hours_test : (same : Mark → Mark → Bool) (alike : Fault → Fault → Bool) → same Book Hours ≡ false → same Rule Hours ≡ false → same Hours Hours ≡ true →
-    (word : ℕ) → result_eq same alike (mark_of word) (Ok Hours) ≡ eqb word HR
-unfolding mark_of
-hours_test same alike a b e word = go (ℕ_discrete word HR)
+-- a test of what a word says tests the word
+pub mark_test : (alike : Fault → Fault → Bool) (word : ℕ) (mark : Mark) →
+    result_eq eq-value.it alike (mark_of word) (Ok mark) ≡ eqb word (word_of mark)
+mark_test alike word mark = go (mark_of word) refl
   where
-    others : (p q : Bool) → result_eq same alike (by p q false) (Ok Hours) ≡ false
-    others true q = a
-    others false true = b
-    others false false = refl
-
-    go : Dec (word ≡ HR) → result_eq same alike (by (eqb word BK) (eqb word RU) (eqb word HR)) (Ok Hours) ≡ eqb word HR
-    go (yes w) = rw w e
-    go (no n) = rw (ne_eqb word HR n) (others (eqb word BK) (eqb word RU))
+    go : (said : Result Mark Fault) → mark_of word ≡ said → result_eq eq-value.it alike said (Ok mark) ≡ eqb word (word_of mark)
+    go (Ok k) e = same_words k mark ∙ rw (word_is word e)
+    go (Err fault) e =
+        sym
+        (ne_eqb word (word_of mark)
+        (λ q. let f : ◌≡◌ {A = Result Mark Fault} (Ok mark) (Err fault) = sym (mark_word mark) ∙ sym (ap mark_of q) ∙ e in absurd (cc)))

@@ -9,7 +9,8 @@ use borrow.Author.Tests.{eq-eqb, ne_eqb, lt-ltb, le-ltb, le-leb, lt-leb}
 use Rattle.std.specs.Prelude.{Result, Ok, Err, ⊤}
 use lib.Dec.{eqb, leb, ltb}
 use lib.ListN.{length}
-use lib.IntN.{pos, ◌*ℤ◌}
+use lib.IntN.{ℤ, pos, ◌*ℤ◌}
+use Rattle.maxatom.specs.Book.{most_jobs, most_rules, most_minutes}
 use Rattle.maxatom.specs.declared.Rule.{Rule}
 use Rattle.maxatom.proofs.Choose.{cond_yes, cond_no, clash}
 use Rattle.derivation.specs.Refusals.{Reply, refused, answer, Check, check, reply, jobs_check, job_outside, offset_outside}
@@ -20,51 +21,74 @@ use Rattle.derivation.specs.declared.Fault.{Fault}
 use Rattle.derivation.specs.declared.Fault.TheVariants.{JobNumber, Offset}
 use Rattle.bookfile.specs.declared.mark.Mark.{Mark}
 use Rattle.bookfile.specs.declared.mark.Mark.TheVariants.{Book}
-use Rattle.bookfile.specs.Marks.{mark_of}
-use Rattle.bookfile.proofs.Marks.{unknown, book, rules_mark, said_of, is_book, is_rule}
+use denote.Enum.Bare.{sameb}
+use Rattle.bookfile.specs.contracts.mark.Mark.{the_type}
+use Rattle.bookfile.specs.Marks.{mark_of, is_rule}
+use Rattle.bookfile.proofs.Marks.{unknown, known, of_rule, of_book, said_of}
 use Rattle.bookfile.specs.Numbers.{word, long, signed16, signed32}
-use Rattle.bookfile.specs.Reading.{BK, HR, known, size_of, size_at, hours_at, minutes_at, offset_at, rule_at, beyond, outside_at, record_checks, rule_reply, head_checks}
-use Rattle.bookfile.specs.Replies.{said_at, head_reply}
+use Rattle.bookfile.specs.Kinds.{beyond, cut, Kind, BK, jobs_at, rule_with, minutes_at, minutes_rule, RU, hours_at, hours_rule, HR, rule_marks, marks, among, kind_at, size_at, rule_at}
+use Rattle.bookfile.specs.Reading.{record_checks, rule_reply, head_checks}
+use Rattle.bookfile.specs.Inner.{said_at, head_reply}
 use Rattle.bookfile.proofs.Words.{sixty_beyond}
 
--- the size of a record, and its offset, by its mark
+-- the size of a rule's record, what it says, and the checks of that, by its mark
 module _ (file : List ℕ) (at : ℕ) where
-  pub size_hours : word file at ≡ HR → size_at file at ≡ 10
-  unfolding size_at size_of
-  size_hours h = cond_yes _ _ (eq-eqb _ _ h)
+  kind_hours : word file at ≡ HR.mark → kind_at file at ≡ HR
+  unfolding kind_at
+  kind_hours h = cond_yes _ _ (eq-eqb _ _ h)
 
-  pub size_minutes : (word file at ≡ HR → ⊥) → size_at file at ≡ 12
-  unfolding size_at size_of
-  size_minutes h = cond_no _ _ (ne_eqb _ _ h)
+  kind_minutes : (word file at ≡ HR.mark → ⊥) → kind_at file at ≡ RU
+  unfolding kind_at
+  kind_minutes h = cond_no _ _ (ne_eqb _ _ h)
 
   -- the test of hours, as a fact
-  pub in_minutes : eqb (word file at) HR ≡ false → word file at ≡ HR → ⊥
+  pub in_minutes : eqb (word file at) HR.mark ≡ false → word file at ≡ HR.mark → ⊥
   in_minutes e h = clash (eq-eqb _ _ h) e
 
+  pub size_hours : word file at ≡ HR.mark → size_at file at ≡ 10
+  unfolding size_at
+  size_hours h = ap (λ (k : Kind Rule). k.size) (kind_hours h)
+
+  pub size_minutes : (word file at ≡ HR.mark → ⊥) → size_at file at ≡ 12
+  unfolding size_at
+  size_minutes h = ap (λ (k : Kind Rule). k.size) (kind_minutes h)
+
   pub size_bounds : (10 ≤ size_at file at) × (size_at file at ≤ 12)
-  unfolding size_at size_of
-  size_bounds = go (eqb (word file at) HR)
+  unfolding size_at kind_at
+  size_bounds = go (eqb (word file at) HR.mark)
     where
-      go : (t : Bool) → (10 ≤ cond t 10 12) × (cond t 10 12 ≤ 12)
+      go : (t : Bool) → (10 ≤ (cond t HR RU).size) × ((cond t HR RU).size ≤ 12)
       go true = (omega arith, omega arith)
       go false = (omega arith, omega arith)
 
-  pub offset_hours : word file at ≡ HR → pos 60 *ℤ signed16 (word file (at + 8)) ≡ offset_at file at
-  unfolding offset_at hours_at
-  offset_hours h = sym (cond_yes _ _ (eq-eqb _ _ h))
+  pub rule_hours : word file at ≡ HR.mark → rule_with file at (pos 60 *ℤ signed16 (word file (at + 8))) ≡ rule_at file at
+  unfolding rule_at hours_rule hours_at
+  rule_hours h = sym (ap (λ (k : Kind Rule). k.says file at) (kind_hours h))
 
-  pub offset_minutes : (word file at ≡ HR → ⊥) → signed32 (long file (at + 8)) ≡ offset_at file at
-  unfolding offset_at minutes_at
-  offset_minutes h = sym (cond_no _ _ (ne_eqb _ _ h))
+  pub rule_minutes : (word file at ≡ HR.mark → ⊥) → rule_with file at (signed32 (long file (at + 8))) ≡ rule_at file at
+  unfolding rule_at minutes_rule minutes_at
+  rule_minutes h = sym (ap (λ (k : Kind Rule). k.says file at) (kind_minutes h))
 
-  -- offset or hours outside the bounds: the rule's offset is
-  pub outside_same : outside_at file at ≡ offset_outside (rule_at file at)
-  unfolding outside_at offset_outside rule_at offset_at beyond
-  outside_same = go (eqb (word file at) HR)
+  -- a rule by its fields, as the code puts it together
+  pub rule_fields : {x y z : ℕ} {k : ℤ} → x ≡ word file (at + 2) → y ≡ word file (at + 4) → z ≡ word file (at + 6) →
+      rule_with file at k ≡ rule_at file at → record { x = x; y = y; z = z; k = k } ≡ rule_at file at
+  unfolding rule_with
+  rule_fields p q r e = rw (p, q, r) e
+
+  -- the checks of the two kinds: hours are outside their bounds where the offset is
+  pub own_checks : (jobs : ℕ) →
+      (kind_at file at).checks jobs file at
+      ≡ cut (size_at file at) file at ∷ check (job_outside jobs (rule_at file at)) 6 at ∷ check (offset_outside (rule_at file at)) 7 at ∷ []
+  unfolding kind_at size_at rule_at offset_outside hours_rule minutes_rule rule_with beyond
+  own_checks jobs = go (eqb (word file at) HR.mark)
     where
       go : (t : Bool) →
-          cond t (beyond 336 (hours_at file at)) (beyond 20160 (minutes_at file at)) ≡ beyond 20160 (cond t (pos 60 *ℤ hours_at file at) (minutes_at file at))
-      go true = sixty_beyond (hours_at file at)
+          (cond t HR RU).checks jobs file at
+          ≡ cut (cond t HR RU).size file at ∷ check (job_outside jobs ((cond t HR RU).says file at)) 6 at
+          ∷ check (beyond most_minutes ((cond t HR RU).says file at).k) 7 at ∷ []
+      go true =
+          ap (λ (b : Bool). cut 10 file at ∷ check (job_outside jobs (hours_rule file at)) 6 at ∷ check b 7 at ∷ [])
+          (sixty_beyond (hours_at file at))
       go false = refl
 
 -- the rule, where the table's check of it passes
@@ -81,52 +105,59 @@ module _ (jobs : ℕ) (file : List ℕ) (count at : ℕ) where
   rule = rule_at file at
 
   abbrev fields : List Check
-  fields = check (job_outside jobs rule) 6 at ∷ check (outside_at file at) 7 at ∷ []
+  fields = check (job_outside jobs rule) 6 at ∷ check (offset_outside rule) 7 at ∷ []
 
   abbrev whole : List Check
-  whole = check (ltb (length file) (at + size_at file at)) 1 at ∷ fields
+  whole = cut (size_at file at) file at ∷ fields
+
+  abbrev own : List Check
+  own = (kind_at file at).checks jobs file at
 
   abbrev full : List Check
-  full = check (leb 1024 count) 5 at ∷ whole
+  full = check (leb most_rules count) 5 at ∷ own
 
   abbrev counted : List Check
-  counted = check (eqb (word file at) BK) 3 at ∷ full
+  counted = check (not (among (word file at) rule_marks)) 3 at ∷ full
 
-  abbrev marks : List Check
-  marks = check (not (known (word file at))) 2 at ∷ counted
+  abbrev marked : List Check
+  marked = check (not (among (word file at) marks)) 2 at ∷ counted
 
   pub no_mark : length file < at + 2 → said ≡ refused 1 at
   unfolding rule_reply record_checks
   no_mark h = says rule _ _ (lt-ltb _ _ h)
 
   module _ (h : at + 2 ≤ length file) where
-    in_order : said ≡ reply marks rule
+    in_order : said ≡ reply marked rule
     unfolding rule_reply record_checks
-    in_order = skips rule _ marks (le-ltb (length file) (at + 2) h)
+    in_order = skips rule _ marked (le-ltb (length file) (at + 2) h)
 
     pub unknown_said : {fault : Fault} → mark_of (word file at) ≡ Err fault → said ≡ refused (number_of fault) at
-    unknown_said e = let u = unknown (word file at) e in in_order ∙ says rule _ _ u.1 ∙ ap (λ (f : Fault). refused (number_of f) at) (sym u.0)
+    unknown_said e =
+        let u = unknown (word file at) e in in_order ∙ says rule _ _ u.1 ∙ ap (λ (f : Fault). refused (number_of f) at) (sym u.0)
 
-    pub book_said : mark_of (word file at) ≡ Ok Book → said ≡ refused 3 at
-    book_said e =
-        let b = book (word file at) e in
-        in_order ∙ skips rule (check (not (known (word file at))) 2 at) counted b.0 ∙ says rule (check (eqb (word file at) BK) 3 at) full b.1
+    module _ {mark : Mark} (e : mark_of (word file at) ≡ Ok mark) where
+      pub misplaced : is_rule mark ≡ false → said ≡ refused 3 at
+      misplaced r =
+          in_order ∙ skips rule (check (not (among (word file at) marks)) 2 at) counted (known (word file at) e)
+          ∙ says rule (check (not (among (word file at) rule_marks)) 3 at) full (rw (of_rule (word file at) e, r))
 
-    module _ {mark : Mark} (e : mark_of (word file at) ≡ Ok mark) (other : mark ≡ Book → ⊥) where
-      of_rule : said ≡ reply full rule
-      of_rule =
-          let b = rules_mark (word file at) e other in
-          in_order ∙ skips rule (check (not (known (word file at))) 2 at) counted b.0 ∙ skips rule (check (eqb (word file at) BK) 3 at) full b.1
+    module _ {mark : Mark} (e : mark_of (word file at) ≡ Ok mark) (r : is_rule mark ≡ true) where
+      ruled : said ≡ reply full rule
+      ruled =
+          in_order ∙ skips rule (check (not (among (word file at) marks)) 2 at) counted (known (word file at) e)
+          ∙ skips rule (check (not (among (word file at) rule_marks)) 3 at) full (rw (of_rule (word file at) e, r))
 
       pub full_said : 1024 ≤ count → said ≡ refused 5 at
-      full_said l = of_rule ∙ says rule (check (leb 1024 count) 5 at) whole (le-leb 1024 count l)
+      full_said l = ruled ∙ says rule (check (leb most_rules count) 5 at) own (le-leb most_rules count l)
 
       module _ (room : count < 1024) where
         counts : said ≡ reply whole rule
-        counts = of_rule ∙ skips rule (check (leb 1024 count) 5 at) whole (lt-leb 1024 count room)
+        counts =
+            ruled ∙ skips rule (check (leb most_rules count) 5 at) own (lt-leb most_rules count room)
+            ∙ ap (λ (l : List Check). reply l rule) (own_checks file at jobs)
 
-        pub cut : length file < at + size_at file at → said ≡ refused 1 at
-        cut l = counts ∙ says rule _ _ (lt-ltb _ _ l)
+        pub cut_said : length file < at + size_at file at → said ≡ refused 1 at
+        cut_said l = counts ∙ says rule _ _ (lt-ltb _ _ l)
 
         module _ (l : at + size_at file at ≤ length file) where
           fields_last : said ≡ reply fields rule
@@ -134,9 +165,11 @@ module _ (jobs : ℕ) (file : List ℕ) (count at : ℕ) where
 
           by_fields : (r : Result ⊤ Fault) → rule_fault jobs rule ≡ r → reply fields rule ≡ said_at at (after_check r rule)
           unfolding reply rule_fault
-          by_fields r e = rw (← e, outside_same file at) (go (job_outside jobs rule) (offset_outside rule))
+          by_fields r e = rw (← e) (go (job_outside jobs rule) (offset_outside rule))
             where
-              go : (p q : Bool) → cond p (refused 6 at) (cond q (refused 7 at) (answer rule)) ≡ said_at at (after_check (cond p (Err JobNumber) (cond q (Err Offset) (Ok tt))) rule)
+              go : (p q : Bool) →
+                  cond p (refused 6 at) (cond q (refused 7 at) (answer rule))
+                  ≡ said_at at (after_check (cond p (Err JobNumber) (cond q (Err Offset) (Ok tt))) rule)
               go true q = refl
               go false true = refl
               go false false = refl
@@ -162,32 +195,36 @@ module _ (file : List ℕ) where
   body = check (ltb (length file) 4) 1 0 ∷ number
 
   abbrev opening : List Check
-  opening = check (not (known (word file 0))) 2 0 ∷ check (not (eqb (word file 0) BK)) 3 0 ∷ body
+  opening = check (not (among (word file 0) marks)) 2 0 ∷ check (not (eqb (word file 0) BK.mark)) 3 0 ∷ body
 
   pub head_short : length file < 2 → head ≡ refused 1 0
-  unfolding head_reply head_checks
+  unfolding head_reply head_checks jobs_at
   head_short h = says jobs (check (ltb (length file) 2) 1 0) opening (lt-ltb _ _ h)
 
   module _ (h : 2 ≤ length file) where
     head_opens : head ≡ reply opening jobs
-    unfolding head_reply head_checks
+    unfolding head_reply head_checks jobs_at
     head_opens = skips jobs (check (ltb (length file) 2) 1 0) opening (le-ltb _ _ h)
 
     pub head_unknown : {fault : Fault} → mark_of (word file 0) ≡ Err fault → head ≡ refused (number_of fault) 0
-    head_unknown e = let u = unknown (word file 0) e in head_opens ∙ says jobs _ _ u.1 ∙ ap (λ (f : Fault). refused (number_of f) 0) (sym u.0)
+    head_unknown e =
+        let u = unknown (word file 0) e in head_opens ∙ says jobs _ _ u.1 ∙ ap (λ (f : Fault). refused (number_of f) 0) (sym u.0)
 
-    pub head_rule : {mark : Mark} → mark_of (word file 0) ≡ Ok mark → (mark ≡ Book → ⊥) → head ≡ refused 3 0
-    head_rule e other =
-        let b = rules_mark (word file 0) e other in
-        head_opens ∙ skips jobs (check (not (known (word file 0))) 2 0) (check (not (eqb (word file 0) BK)) 3 0 ∷ body) b.0
-        ∙ says jobs (check (not (eqb (word file 0) BK)) 3 0) body (rw b.1)
+    module _ {mark : Mark} (e : mark_of (word file 0) ≡ Ok mark) where
+      pub head_other : sameb the_type mark Book ≡ false → head ≡ refused 3 0
+      head_other b =
+          head_opens
+          ∙ skips jobs (check (not (among (word file 0) marks)) 2 0) (check (not (eqb (word file 0) BK.mark)) 3 0 ∷ body)
+          (known (word file 0) e)
+          ∙ says jobs (check (not (eqb (word file 0) BK.mark)) 3 0) body (rw (of_book (word file 0) e, b))
 
-    module _ (e : mark_of (word file 0) ≡ Ok Book) where
+    module _ {mark : Mark} (e : mark_of (word file 0) ≡ Ok mark) (b : sameb the_type mark Book ≡ true) where
       head_book : head ≡ reply body jobs
       head_book =
-          let b = book (word file 0) e in
-          head_opens ∙ skips jobs (check (not (known (word file 0))) 2 0) (check (not (eqb (word file 0) BK)) 3 0 ∷ body) b.0
-          ∙ skips jobs (check (not (eqb (word file 0) BK)) 3 0) body (rw b.1)
+          head_opens
+          ∙ skips jobs (check (not (among (word file 0) marks)) 2 0) (check (not (eqb (word file 0) BK.mark)) 3 0 ∷ body)
+          (known (word file 0) e)
+          ∙ skips jobs (check (not (eqb (word file 0) BK.mark)) 3 0) body (rw (of_book (word file 0) e, b))
 
       pub head_cut : length file < 4 → head ≡ refused 1 0
       head_cut l = head_book ∙ says jobs (check (ltb (length file) 4) 1 0) number (lt-ltb _ _ l)
@@ -196,13 +233,15 @@ module _ (file : List ℕ) where
         head_jobs : head ≡ reply number jobs
         head_jobs = head_book ∙ skips jobs (check (ltb (length file) 4) 1 0) number (le-ltb _ _ l)
 
-        pub head_count : (jobs < 1) ⊎ ((1 ≤ jobs) × (256 < jobs)) → head ≡ refused 4 0
-        head_count n = head_jobs ∙ says jobs (jobs_check jobs) [] (⊎_elim (λ p. rw (lt-ltb jobs 1 p)) (λ p. rw (le-ltb jobs 1 p.0, lt-ltb 256 jobs p.1)) n)
+        pub head_count : (jobs < 1) ⊎ ((1 ≤ jobs) × (most_jobs < jobs)) → head ≡ refused 4 0
+        head_count n =
+            head_jobs
+            ∙ says jobs (jobs_check jobs) [] (⊎_elim (λ p. rw (lt-ltb jobs 1 p)) (λ p. rw (le-ltb jobs 1 p.0, lt-ltb most_jobs jobs p.1)) n)
 
-        pub head_passes : 1 ≤ jobs → jobs ≤ 256 → head ≡ answer jobs
-        head_passes p q = head_jobs ∙ accepting number jobs (rw (le-ltb jobs 1 p, le-ltb 256 jobs q), tt)
+        pub head_passes : 1 ≤ jobs → jobs ≤ most_jobs → head ≡ answer jobs
+        head_passes p q = head_jobs ∙ accepting number jobs (rw (le-ltb jobs 1 p, le-ltb most_jobs jobs q), tt)
 
 -- what the code says of a record, and of the first one
-pub ruleset records = (no_mark, unknown_said, book_said, full_said, cut, fault_said, taken, said_of, is_book, is_rule)
+pub ruleset records = (no_mark, unknown_said, misplaced, full_said, cut_said, fault_said, taken, said_of)
 
-pub ruleset heads = (head_short, head_unknown, head_rule, head_cut, head_count, head_passes, said_of, is_book, is_rule)
+pub ruleset heads = (head_short, head_unknown, head_other, head_cut, head_count, head_passes, said_of)

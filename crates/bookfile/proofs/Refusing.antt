@@ -2,28 +2,33 @@
 use mathlib.Core.Path.{◌≡◌, refl, sym, ap, ◌∙◌}
 use mathlib.Core.Bool.{Bool, true, false, cond}
 use mathlib.Core.List.{List, [], ◌∷◌, ◌++◌}
-use Prim.Native.Nat.{ℕ, zero, suc, ◌+◌, ◌≤◌}
+use Prim.Native.Nat.{ℕ, zero, suc, ◌+◌, ◌<◌, ◌≤◌}
 use native.Mathlib.Omega.{arith}
-use lib.Dec.{leb, ltb}
+use lib.Dec.{leb}
 use borrow.Author.Tests.{leb-true}
 use lib.ListN.{length, drop, drop_of_length-le}
 use lib.Seq.{drop-drop}
 use Rattle.std.proofs.lemmas.List.{take-append-drop}
 use Rattle.std.specs.List.{Contains}
-use Rattle.maxatom.specs.Book.{Each}
+use Rattle.maxatom.specs.Book.{most_jobs, most_rules, Each}
 use Rattle.maxatom.specs.declared.Rule.{Rule}
 use Rattle.derivation.specs.declared.Counts.{Counts}
-use Rattle.derivation.specs.Refusals.{Reply, refused, answer, Check, check, reply, verdict}
+use Rattle.derivation.specs.Refusals.{Reply, refused, answer, Check, reply, verdict, lent}
 use Rattle.maxatom.proofs.Lists.{each_join}
 use Rattle.derivation.proofs.Checks.{answer_not}
 use Rattle.derivation.proofs.Refusing.{refuses, refusing}
+use Rattle.bookfile.specs.declared.reading.LatestTime.{LatestTime}
 use Rattle.bookfile.specs.Numbers.{word}
-use Rattle.bookfile.specs.Reading.{size_at, rule_at, record_checks, rule_reply, head_checks, Entry, before, rules_from, rules_of, after, book_reply, entries_of, entries, stretch}
-use Rattle.bookfile.specs.Replies.{counted, roomed, file_reply, read_reply, read_into}
+use Rattle.bookfile.specs.Kinds.{CE, latest_at, among, kind_at, size_at, rule_at}
+use Rattle.bookfile.specs.Reading.{head_checks, latest_here, latest_checks, latest_reply, record_checks, rule_reply, entry, Entry, before, latest_from, rules_from, after, read, end_of, reading, latest_of, rules_begin, rules_of, book_reply, stretch}
+use Rattle.bookfile.specs.Replies.{counted, room_checks, roomed, file_reply, read_reply, read_rules, read_latest}
 use Rattle.bookfile.specs.Writing.{plan_checks, plan_out}
-use Rattle.bookfile.specs.Theorems.{checks_from, file_checks, reader_checks, stretches, ToTheEnd, FileDemand1}
-use Rattle.bookfile.proofs.Rules.{not_full}
-use Rattle.bookfile.proofs.Walks.{split}
+use Rattle.bookfile.specs.Theorems.{latest_checks_from, checks_from, file_checks, reader_checks, times_at, stretches, ToTheEnd, FileDemand1}
+use Rattle.bookfile.proofs.Records.{own_checks}
+use Rattle.bookfile.proofs.Latest.{latest_is, latest_in_book, latest_first, left, left_all, left_less}
+use Rattle.bookfile.proofs.Rules.{looks, not_full}
+use Rattle.bookfile.proofs.Filling.{first_of, none_of}
+use Rattle.bookfile.proofs.Walks.{passes_few, split}
 
 -- checks, and more behind them
 after_append : {A : Type 0} (a : A) (checks more : List Check) → reply (checks ++ more) a ≡ after (verdict checks) (reply more a)
@@ -32,7 +37,8 @@ after_append a [] more = refl
 after_append a (c ∷ checks) more = go c.fails (after_append a checks more)
   where
     go : (t : Bool) → reply (checks ++ more) a ≡ after (verdict checks) (reply more a) →
-        cond t (refused c.number c.place) (reply (checks ++ more) a) ≡ after (cond t (refused c.number c.place) (verdict checks)) (reply more a)
+        cond t (refused c.number c.place) (reply (checks ++ more) a)
+        ≡ after (cond t (refused c.number c.place) (verdict checks)) (reply more a)
     go true h = refl
     go false h = h
 
@@ -43,18 +49,56 @@ after_any a [] second = refl
 after_any a (c ∷ checks) second = go c.fails (after_any a checks second)
   where
     go : (t : Bool) → after (reply checks a) second ≡ after (verdict checks) second →
-        after (cond t (refused c.number c.place) (reply checks a)) second ≡ after (cond t (refused c.number c.place) (verdict checks)) second
+        after (cond t (refused c.number c.place) (reply checks a)) second
+        ≡ after (cond t (refused c.number c.place) (verdict checks)) second
     go true h = refl
     go false h = h
 
-after_before : {A : Type 0} (at : ℕ) (said : Reply Rule) (rest : Reply (List Entry)) (second : Reply A) → after (before at said rest) second ≡ after said (after rest second)
+after_before : {A B C : Type 0} (kept : B → C) (said : Reply B) (rest : Reply (List C)) (second : Reply A) →
+    after (before kept said rest) second ≡ after said (after rest second)
 unfolding before after
-after_before at (refused number place) rest second = refl
-after_before at (answer r) (refused number place) second = refl
-after_before at (answer r) (answer entries) second = refl
+after_before kept (refused number place) rest second = refl
+after_before kept (answer b) (refused number place) second = refl
+after_before kept (answer b) (answer more) second = refl
+
+after_answer : {A B : Type 0} (said : Reply A) (second : Reply B) → after (after said (answer (tt {0}))) second ≡ after said second
+unfolding after
+after_answer (refused number place) second = refl
+after_answer (answer a) second = refl
+
+-- the latest times from a byte on are refused as their checks are
+from_latest_checks : {A : Type 0} (a : A) (most jobs : ℕ) (file given : List ℕ) (at : ℕ) →
+    reply (latest_checks_from most jobs file given at) a ≡ after (latest_from most jobs file given at) (answer a)
+unfolding latest_checks_from latest_from latest_reply after reply
+from_latest_checks a zero jobs file given at = refl
+from_latest_checks a (suc most) jobs file given at =
+    go (latest_here file at) (from_latest_checks a most jobs file (job ∷ given) (at + CE.size))
+  where
+    job : ℕ
+    job = (latest_at file at).job
+
+    here : List Check
+    here = latest_checks jobs file (among job given) at
+
+    behind : List Check
+    behind = latest_checks_from most jobs file (job ∷ given) (at + CE.size)
+
+    rest : Reply (List LatestTime)
+    rest = latest_from most jobs file (job ∷ given) (at + CE.size)
+
+    said : Reply LatestTime
+    said = latest_reply jobs file (among job given) at
+
+    go : (t : Bool) → reply behind a ≡ after rest (answer a) →
+        reply (cond t (here ++ behind) []) a ≡ after (cond t (before (λ x. x) said rest) (answer [])) (answer a)
+    go false h = refl
+    go true h =
+        after_append a here behind ∙ ap (after (verdict here)) h
+        ∙ sym (after_before (λ x. x) said rest (answer a) ∙ after_any (latest_at file at) here (after rest (answer a)))
 
 -- the records from a byte on are refused as their checks are
-from_checks : {A : Type 0} (a : A) (most jobs : ℕ) (file : List ℕ) (count at : ℕ) → reply (checks_from most jobs file count at) a ≡ after (rules_from most jobs file count at) (answer a)
+from_checks : {A : Type 0} (a : A) (most jobs : ℕ) (file : List ℕ) (count at : ℕ) →
+    reply (checks_from most jobs file count at) a ≡ after (rules_from most jobs file count at) (answer a)
 unfolding checks_from rules_from rule_reply after reply
 from_checks a zero jobs file count at = refl
 from_checks a (suc most) jobs file count at = go (leb (length file) at) (from_checks a most jobs file (count + 1) (at + size_at file at))
@@ -69,58 +113,112 @@ from_checks a (suc most) jobs file count at = go (leb (length file) at) (from_ch
     rest = rules_from most jobs file (count + 1) (at + size_at file at)
 
     go : (t : Bool) → reply behind a ≡ after rest (answer a) →
-        reply (cond t [] (here ++ behind)) a ≡ after (cond t (answer []) (before at (rule_reply jobs file count at) rest)) (answer a)
+        reply (cond t [] (here ++ behind)) a
+        ≡ after (cond t (answer []) (before (entry at) (rule_reply jobs file count at) rest)) (answer a)
     go true h = refl
     go false h =
         after_append a here behind ∙ ap (after (verdict here)) h
-        ∙ sym (after_before at (rule_reply jobs file count at) rest (answer a) ∙ after_any (rule_at file at) here (after rest (answer a)))
+        ∙ sym
+        (after_before (entry at) (rule_reply jobs file count at) rest (answer a) ∙ after_any (rule_at file at) here (after rest (answer a)))
 
--- a file's reply, and the reader's, by what the first record says and what those behind it say
+-- a file's reply, and the reader's, by what the first record says, and what the latest times and the rules behind it say
 module _ (jobs : ℕ) where
   abbrev found : Reply (List Entry) → Counts
-  found said = record { jobs = jobs; rules = length (entries_of said) }
+  found said = record { jobs = jobs; rules = length (read said) }
 
-  abbrev room_check : ℕ → Reply (List Entry) → List Check
-  room_check room said = check (ltb room (length (entries_of said))) 21 0 ∷ []
+  counted_after : (head : Reply (Unit {0})) (times : Reply (List LatestTime)) (rules : Reply (List Entry)) →
+      counted jobs (after head (after times rules))
+      ≡ after head (after times (after rules (answer (found (after head (after times rules))))))
+  unfolding counted after read
+  counted_after (refused number place) times rules = refl
+  counted_after (answer tt) (refused number place) rules = refl
+  counted_after (answer tt) (answer ts) (refused number place) = refl
+  counted_after (answer tt) (answer ts) (answer es) = refl
 
-  counted_after : (head : Reply (Unit {0})) (rules : Reply (List Entry)) → counted jobs (after head rules) ≡ after head (after rules (answer (found (after head rules))))
-  unfolding counted after entries_of
-  counted_after (refused number place) rules = refl
-  counted_after (answer tt) (refused number place) = refl
-  counted_after (answer tt) (answer es) = refl
-
-  roomed_after : (room : ℕ) (head : Reply (Unit {0})) (rules : Reply (List Entry)) →
-      roomed room (counted jobs (after head rules)) ≡ after (after head (after rules (answer (tt {0})))) (reply (room_check room (after head rules)) (found (after head rules)))
-  unfolding roomed counted after entries_of
-  roomed_after room (refused number place) rules = refl
-  roomed_after room (answer tt) (refused number place) = refl
-  roomed_after room (answer tt) (answer es) = refl
+  roomed_after : (table list : ℕ) (head : Reply (Unit {0})) (times : Reply (List LatestTime)) (rules : Reply (List Entry)) →
+      let all = after head (after times rules) in
+      roomed table list (counted jobs all)
+      ≡ after (after head (after times (after rules (answer (tt {0}))))) (reply (room_checks table list (found all)) (found all))
+  unfolding roomed counted after read
+  roomed_after table list (refused number place) times rules = refl
+  roomed_after table list (answer tt) (refused number place) rules = refl
+  roomed_after table list (answer tt) (answer ts) (refused number place) = refl
+  roomed_after table list (answer tt) (answer ts) (answer es) = refl
 
 module _ (file : List ℕ) where
   abbrev counts : Counts
   counts = found (word file 2) (book_reply file)
 
-  checks_say : {A : Type 0} (a : A) → reply (file_checks file) a ≡ after (verdict (head_checks file)) (after (rules_of file) (answer a))
+  checks_say : {A : Type 0} (a : A) →
+      reply (file_checks file) a ≡ after (verdict (head_checks file)) (after (latest_of file) (after (rules_of file) (answer a)))
   checks_say a =
-      after_append a (head_checks file) (checks_from 1025 (word file 2) file 0 4)
-      ∙ ap (after (verdict (head_checks file))) (from_checks a 1025 (word file 2) file 0 4)
+      let times = latest_checks_from (most_jobs + 1) (word file 2) file [] 4 in
+      let rules = checks_from (most_rules + 1) (word file 2) file 0 (rules_begin file) in
+      after_append a (head_checks file) (times ++ rules)
+      ∙ ap (after (verdict (head_checks file)))
+      (after_append a times rules
+      ∙ ap (after (verdict times)) (from_checks a (most_rules + 1) (word file 2) file 0 (rules_begin file))
+      ∙ ap (λ (s : Reply (Unit {0})). after s (after (rules_of file) (answer a)))
+      (from_latest_checks (tt {0}) (most_jobs + 1) (word file 2) file [] 4)
+      ∙ after_answer (latest_of file) (after (rules_of file) (answer a)))
 
   file_is : file_reply file ≡ reply (file_checks file) counts
-  unfolding file_reply book_reply
-  file_is = counted_after (word file 2) (verdict (head_checks file)) (rules_of file) ∙ sym (checks_say counts)
+  unfolding file_reply book_reply reading
+  file_is = counted_after (word file 2) (verdict (head_checks file)) (latest_of file) (rules_of file) ∙ sym (checks_say counts)
 
-  read_is : (room : ℕ) → read_reply file room ≡ reply (reader_checks file room) counts
-  unfolding read_reply file_reply book_reply
-  read_is room =
-      roomed_after (word file 2) room (verdict (head_checks file)) (rules_of file)
-      ∙ sym (after_append counts (file_checks file) _ ∙ ap (λ (s : Reply (Unit {0})). after s (reply (room_check (word file 2) room (book_reply file)) counts)) (checks_say (tt {0})))
+  read_is : (table list : ℕ) → read_reply file table list ≡ reply (reader_checks file table list) counts
+  unfolding read_reply file_reply book_reply reading
+  read_is table list =
+      roomed_after (word file 2) table list (verdict (head_checks file)) (latest_of file) (rules_of file)
+      ∙ sym
+      (after_append counts (file_checks file) _
+      ∙ ap (λ (s : Reply (Unit {0})). after s (reply (room_checks table list counts) counts)) (checks_say (tt {0})))
+
+-- No job has a second latest time, so however many more looks are allowed, the same is said.
+same_times : (m n jobs : ℕ) (file given : List ℕ) (at : ℕ) → left jobs given < m → left jobs given < n →
+    latest_from m jobs file given at ≡ latest_from n jobs file given at
+unfolding latest_from before
+same_times zero n jobs file given at h k = absurd (omega arith)
+same_times (suc m) zero jobs file given at h k = absurd (omega arith)
+same_times (suc m) (suc n) jobs file given at h k =
+    go (latest_here file at)
+    (by (latest_reply jobs file (among job given) at) refl (λ h k. same_times m n jobs file (job ∷ given) (at + CE.size) h k))
+  where
+    job : ℕ
+    job = (latest_at file at).job
+
+    long : Reply (List LatestTime)
+    long = latest_from m jobs file (job ∷ given) (at + CE.size)
+
+    short : Reply (List LatestTime)
+    short = latest_from n jobs file (job ∷ given) (at + CE.size)
+
+    by : (said : Reply LatestTime) → latest_reply jobs file (among job given) at ≡ said →
+        (left jobs (job ∷ given) < m → left jobs (job ∷ given) < n → long ≡ short) → before (λ x. x) said long ≡ before (λ x. x) said short
+    by (refused number place) e f = refl
+    by (answer t) e f =
+        let j : t.job ≡ job = ap (λ (x : LatestTime). x.job) (latest_is jobs file _ at e) in
+        let l = latest_in_book jobs file _ at e in
+        let one = left_less jobs job given (omega arith) (latest_first jobs file _ at e) in
+        ap (before (λ x. x) (answer t)) (f (omega arith) (omega arith))
+
+    go : (t : Bool) →
+        before (λ x. x) (latest_reply jobs file (among job given) at) long
+        ≡ before (λ x. x) (latest_reply jobs file (among job given) at) short →
+        cond t (before (λ x. x) (latest_reply jobs file (among job given) at) long) (answer [])
+        ≡ cond t (before (λ x. x) (latest_reply jobs file (among job given) at) short) (answer [])
+    go true e = e
+    go false e = refl
 
 -- A 1,025th record is refused, so however many more looks are allowed, the same is said.
-same_from : (m n jobs : ℕ) (file : List ℕ) (count at : ℕ) → count ≤ 1024 → 1025 ≤ count + m → 1025 ≤ count + n → rules_from m jobs file count at ≡ rules_from n jobs file count at
+same_from : (m n jobs : ℕ) (file : List ℕ) (count at : ℕ) → count ≤ most_rules → looks ≤ count + m → looks ≤ count + n →
+    rules_from m jobs file count at ≡ rules_from n jobs file count at
 unfolding rules_from before
 same_from zero n jobs file count at c h k = absurd (omega arith)
 same_from (suc m) zero jobs file count at c h k = absurd (omega arith)
-same_from (suc m) (suc n) jobs file count at c h k = go (leb (length file) at) (by (rule_reply jobs file count at) refl (λ c h k. same_from m n jobs file (count + 1) (at + size_at file at) c h k))
+same_from (suc m) (suc n) jobs file count at c h k =
+    go (leb (length file) at)
+    (by (rule_reply jobs file count at) refl (λ c h k. same_from m n jobs file (count + 1) (at + size_at file at) c h k))
   where
     long : Reply (List Entry)
     long = rules_from m jobs file (count + 1) (at + size_at file at)
@@ -129,44 +227,84 @@ same_from (suc m) (suc n) jobs file count at c h k = go (leb (length file) at) (
     short = rules_from n jobs file (count + 1) (at + size_at file at)
 
     by : (said : Reply Rule) → rule_reply jobs file count at ≡ said →
-        (count + 1 ≤ 1024 → 1025 ≤ count + 1 + m → 1025 ≤ count + 1 + n → long ≡ short) → before at said long ≡ before at said short
+        (count + 1 ≤ most_rules → looks ≤ count + 1 + m → looks ≤ count + 1 + n → long ≡ short) →
+        before (entry at) said long ≡ before (entry at) said short
     by (refused number place) e f = refl
-    by (answer r) e f = let l = not_full jobs file count at e in ap (before at (answer r)) (f (omega arith) (omega arith) (omega arith))
+    by (answer r) e f =
+        let l = not_full jobs file count at e in ap (before (entry at) (answer r)) (f (omega arith) (omega arith) (omega arith))
 
-    go : (t : Bool) → before at (rule_reply jobs file count at) long ≡ before at (rule_reply jobs file count at) short →
-        cond t (answer []) (before at (rule_reply jobs file count at) long) ≡ cond t (answer []) (before at (rule_reply jobs file count at) short)
+    go : (t : Bool) → before (entry at) (rule_reply jobs file count at) long ≡ before (entry at) (rule_reply jobs file count at) short →
+        cond t (answer []) (before (entry at) (rule_reply jobs file count at) long)
+        ≡ cond t (answer []) (before (entry at) (rule_reply jobs file count at) short)
     go true e = refl
     go false e = e
 
 -- A reading that is not refused has taken every byte from the one where it began.
-whole_from : (most jobs : ℕ) (file : List ℕ) (count at : ℕ) (read : List Entry) → rules_from most jobs file count at ≡ answer read → stretches file read ≡ drop at file
+whole_from : (most jobs : ℕ) (file : List ℕ) (count at : ℕ) (found : List Entry) → rules_from most jobs file count at ≡ answer found →
+    stretches file found ≡ drop at file
 unfolding rules_from stretches stretch
-whole_from zero jobs file count at read e = absurd (answer_not (sym e))
-whole_from (suc most) jobs file count at read e = go (leb (length file) at) refl (whole_from most jobs file (count + 1) (at + size_at file at)) e
+whole_from zero jobs file count at found e = absurd (answer_not (sym e))
+whole_from (suc most) jobs file count at found e =
+    go (leb (length file) at) refl (whole_from most jobs file (count + 1) (at + size_at file at)) e
   where
     rest : Reply (List Entry)
     rest = rules_from most jobs file (count + 1) (at + size_at file at)
 
-    go : (t : Bool) → leb (length file) at ≡ t → ((others : List Entry) → rest ≡ answer others → stretches file others ≡ drop (at + size_at file at) file) →
-        cond t (answer []) (before at (rule_reply jobs file count at) rest) ≡ answer read → stretches file read ≡ drop at file
+    go : (t : Bool) → leb (length file) at ≡ t →
+        ((others : List Entry) → rest ≡ answer others → stretches file others ≡ drop (at + size_at file at) file) →
+        cond t (answer []) (before (entry at) (rule_reply jobs file count at) rest) ≡ answer found → stretches file found ≡ drop at file
     go true l f q =
-        let none : read ≡ [] = cc in
+        let none : found ≡ [] = cc in
         rw none (sym (drop_of_length-le file {i = at} (leb-true _ _ l)))
     go false l f q =
-        let s = split at (rule_reply jobs file count at) rest read q in
+        let s = split at (rule_reply jobs file count at) rest found q in
         rw (s.is, f s.others s.says_more, ← drop-drop (size_at file at) at file) (take-append-drop (size_at file at) (drop at file))
 
+-- The latest times that were read are those of the records from the byte on.
+times_from : (most jobs : ℕ) (file given : List ℕ) (at : ℕ) (found : List LatestTime) → latest_from most jobs file given at ≡ answer found →
+    found ≡ times_at file at (length found)
+unfolding latest_from times_at
+times_from zero jobs file given at found e = absurd (answer_not (sym e))
+times_from (suc most) jobs file given at found e =
+    go (latest_here file at) refl (λ others f. times_from most jobs file ((latest_at file at).job ∷ given) (at + CE.size) others f)
+  where
+    go : (t : Bool) → latest_here file at ≡ t →
+        ((others : List LatestTime) → latest_from most jobs file ((latest_at file at).job ∷ given) (at + CE.size) ≡ answer others →
+        others ≡ times_at file (at + CE.size) (length others)) →
+        found ≡ times_at file at (length found)
+    go true h f =
+        let s = first_of most jobs file given at found e h in
+        rw s.is (ap (λ (l : List LatestTime). latest_at file at ∷ l) (f s.others s.more))
+    go false h f = rw (none_of most jobs file given at found e h) refl
+
 pub to_the_end : (file : List ℕ) → ToTheEnd file
+unfolding book_reply reading after
 to_the_end file =
     record {
-      whole = λ most read e. whole_from most (word file 2) file 0 4 read e;
-      same = λ more. same_from (1025 + more) 1025 (word file 2) file 0 4 (omega arith) (omega arith) (omega arith);
+      times = λ most found e. times_from most (word file 2) file [] 4 found e;
+      whole = λ most at found e. whole_from most (word file 2) file 0 at found e;
+      same = λ more others. go more others (verdict (head_checks file)) refl;
     }
+  where
+    jobs : ℕ
+    jobs = word file 2
+
+    go : (more others : ℕ) (head : Reply (Unit {0})) → verdict (head_checks file) ≡ head →
+        let many = latest_from (most_jobs + 1 + more) jobs file [] 4 in
+        after head (after many (rules_from (most_rules + 1 + others) jobs file 0 (end_of many)))
+        ≡ after head (after (latest_of file) (rules_of file))
+    go more others (refused number place) e = refl
+    go more others (answer tt) e =
+        let few : left jobs [] ≤ most_jobs = omega (arith, left_all jobs, passes_few file e) in
+        rw (
+          same_times (most_jobs + 1 + more) (most_jobs + 1) jobs file [] 4 (omega arith) (omega arith),
+          same_from (most_rules + 1 + others) looks jobs file 0 (rules_begin file) (omega arith) (omega arith) (omega arith),
+        )
 
 -- the numbers of a file's checks, and others behind them
 module _ (more : List ℕ) where
   abbrev numbers : List ℕ
-  numbers = 1 ∷ 2 ∷ 3 ∷ 4 ∷ 5 ∷ 6 ∷ 7 ∷ more
+  numbers = 1 ∷ 2 ∷ 3 ∷ 4 ∷ 5 ∷ 6 ∷ 7 ∷ 8 ∷ 9 ∷ more
 
   abbrev Own : Check → Type 0
   Own c = Contains numbers c.number
@@ -180,27 +318,73 @@ module _ (more : List ℕ) where
   three : Contains numbers 3
   three = (2, omega arith, refl)
 
+  six : Contains numbers 6
+  six = (5, omega arith, refl)
+
+  nine : Contains numbers 9
+  nine = (8, omega arith, refl)
+
+  latest_numbers : (most jobs : ℕ) (file given : List ℕ) (at : ℕ) → Each Own (latest_checks_from most jobs file given at)
+  unfolding latest_checks_from latest_checks
+  latest_numbers zero jobs file given at = (nine, tt)
+  latest_numbers (suc most) jobs file given at =
+      go (latest_here file at) (latest_numbers most jobs file ((latest_at file at).job ∷ given) (at + CE.size))
+    where
+      here : List Check
+      here = latest_checks jobs file (among (latest_at file at).job given) at
+
+      behind : List Check
+      behind = latest_checks_from most jobs file ((latest_at file at).job ∷ given) (at + CE.size)
+
+      go : (t : Bool) → Each Own behind → Each Own (cond t (here ++ behind) [])
+      go false h = tt
+      go true h = (one, (six, ((7, omega arith, refl), (nine, h))))
+
   from_numbers : (most jobs : ℕ) (file : List ℕ) (count at : ℕ) → Each Own (checks_from most jobs file count at)
   unfolding checks_from record_checks
   from_numbers zero jobs file count at = ((4, omega arith, refl), tt)
   from_numbers (suc most) jobs file count at = go (leb (length file) at) (from_numbers most jobs file (count + 1) (at + size_at file at))
     where
+      own : Each Own ((kind_at file at).checks jobs file at)
+      own = rw (own_checks file at jobs) (one, (six, ((6, omega arith, refl), tt)))
+
       go : (t : Bool) → Each Own (checks_from most jobs file (count + 1) (at + size_at file at)) →
           Each Own (cond t [] (record_checks jobs file count at ++ checks_from most jobs file (count + 1) (at + size_at file at)))
       go true h = tt
-      go false h = (one, (two, (three, ((4, omega arith, refl), (one, ((5, omega arith, refl), ((6, omega arith, refl), h)))))))
+      go false h = (one, (two, (three, ((4, omega arith, refl), each_join Own ((kind_at file at).checks jobs file at) _ own h))))
 
   file_numbers : (file : List ℕ) → Each Own (file_checks file)
   unfolding head_checks
-  file_numbers file = (one, (two, (three, (one, ((3, omega arith, refl), from_numbers 1025 (word file 2) file 0 4)))))
+  file_numbers file = (
+    one,
+    (
+      two,
+      (
+        three,
+        (
+          one,
+          (
+            (3, omega arith, refl),
+            each_join Own (latest_checks_from (most_jobs + 1) (word file 2) file [] 4) _
+                (latest_numbers (most_jobs + 1) (word file 2) file [] 4)
+                (from_numbers (most_rules + 1) (word file 2) file 0 (rules_begin file)),
+          ),
+        ),
+      ),
+    ),
+  )
 
 pub file_demand_1 : FileDemand1
-unfolding plan_checks plan_out read_into
+unfolding plan_checks plan_out read_rules read_latest lent
 file_demand_1 =
     record {
       examine = λ file. rw (file_is file) (refuses _ _ _ (file_numbers [] file));
-      read_book = λ file rules.
-          rw (read_is file (length rules))
-          (refusing _ _ _ _ _ (each_join _ (file_checks file) _ (file_numbers (21 ∷ []) file) ((7, omega arith, refl), tt)));
+      read_book = λ file rules latest.
+          record {
+            says = rw (read_is file (length rules) (length latest))
+                (refuses _ _ _
+                (each_join _ (file_checks file) _ (file_numbers (21 ∷ []) file) ((9, omega arith, refl), ((9, omega arith, refl), tt))));
+            unchanged = λ number place e. rw e;
+          };
       write_plan = λ times out at. refusing _ _ _ _ _ ((0, omega arith, refl), ((1, omega arith, refl), tt));
     }

@@ -7,33 +7,33 @@ use native.Mathlib.Omega.{arith}
 use lib.Seq.{get_or-drop, drop-cons, take-suc, length-take-le, set-append_seam, take_all}
 use lib.ListN.{length, take, drop, set, get_or, get_or-map, length-map, drop_of_length-le}
 use Rattle.maxatom.specs.declared.Rule.{Rule}
-use Rattle.derivation.specs.Refusals.{answer}
 use Rattle.derivation.specs.Step.{no_rule}
-use Rattle.derivation.specs.declared.Counts.{Counts}
-use Rattle.bookfile.specs.Reading.{size_at, rule_at, Entry, entries}
-use Rattle.bookfile.specs.Theorems.{rules_of_file}
-use Rattle.bookfile.specs.Replies.{file_reply, over, Listed, Begins}
-use Rattle.bookfile.proofs.Walks.{Walked, walked_none, walked_begins, walked_next, listed_rules}
+use Rattle.bookfile.specs.Kinds.{size_at, rule_at}
+use Rattle.bookfile.specs.Reading.{entry, Entry, rules_begin, entries, rules_of_file}
+use Rattle.bookfile.specs.Inner.{Listed, Begins}
+use Rattle.bookfile.proofs.Walks.{Walked, walked_none, walked_begins, walked_next}
 
 -- the first i rules of the file stand in the first i places, the other places are as they were, and the next record begins at byte `at`
 pub record Stored (file : List ℕ) (places : List Rule) (at i : ℕ) (rules : List Rule) : Type 0 where
   pub walked : Walked file at i
   pub is : rules ≡ take i (rules_of_file file) ++ drop i places
 
-pub stored_none : (file : List ℕ) (places : List Rule) → Listed file → Stored file places 4 0 places
+pub stored_none : (file : List ℕ) (places : List Rule) → Listed file → Stored file places (rules_begin file) 0 places
 stored_none file places l = record { walked = walked_none file l; is = refl }
 
 -- the rule whose record begins at a byte is the rule of that number
 rule_here : {file : List ℕ} {number at : ℕ} → Begins file number at → get_or (rules_of_file file) number no_rule ≡ rule_at file at
 rule_here {file} {number} {at} b =
-    let none : Entry = record { at = 0; rule = no_rule } in
+    let none : Entry = entry 0 no_rule in
     let es = entries file in
-    let here : get_or es number none ≡ record { at = at; rule = rule_at file at } =
-    sym (sym (ap (λ (l : List Entry). get_or l 0 none) b.here) ∙ (get_or-drop number es 0 none ∙ ap (λ (j : ℕ). get_or es j none) (omega arith))) in
+    let here : get_or es number none ≡ entry at (rule_at file at) =
+    sym
+    (sym (ap (λ (l : List Entry). get_or l 0 none) b.here) ∙ (get_or-drop number es 0 none ∙ ap (λ (j : ℕ). get_or es j none) (omega arith))) in
     get_or-map (λ (q : Entry). q.rule) es number none ∙ ap (λ (q : Entry). q.rule) here
 
 module _ {file : List ℕ} {places : List Rule} {at i : ℕ} {rules : List Rule} (s : Stored file places at i rules) where
-  stored_next : i < length (entries file) → i < length places → Stored file places (at + size_at file at) (i + 1) (set rules i (rule_at file at))
+  stored_next : i < length (entries file) → i < length places →
+      Stored file places (at + size_at file at) (i + 1) (set rules i (rule_at file at))
   stored_next h l =
       let fresh = rules_of_file file in
       let r = rule_at file at in
@@ -41,7 +41,8 @@ module _ {file : List ℕ} {places : List Rule} {at i : ℕ} {rules : List Rule}
       let size : length (take i fresh) ≡ i = length-take-le i fresh (omega arith) in
       let next : i + 1 ≡ suc i = add-one i in
       let more : take (i + 1) fresh ≡ take i fresh ++ (r ∷ []) =
-      ap (λ (n : ℕ). take n fresh) next ∙ take-suc fresh i no_rule (omega arith) ∙ ap (λ (q : Rule). take i fresh ++ (q ∷ [])) (rule_here (walked_begins s.walked h)) in
+      ap (λ (n : ℕ). take n fresh) next ∙ take-suc fresh i no_rule (omega arith)
+      ∙ ap (λ (q : Rule). take i fresh ++ (q ∷ [])) (rule_here (walked_begins s.walked h)) in
       record {
         walked = walked_next s.walked h;
         is =
@@ -53,30 +54,19 @@ module _ {file : List ℕ} {places : List Rule} {at i : ℕ} {rules : List Rule}
             ∙ ap (λ (n : ℕ). take (i + 1) fresh ++ drop n places) (sym next);
       }
 
--- a book whose rules fit the table: what a turn of the loop has, and the table after the last
-module _ (file : List ℕ) {counts : Counts} (e : file_reply file ≡ answer counts) (table : List Rule) (fits : counts.rules ≤ length table) where
-  abbrev places : List Rule
-  places = take counts.rules table
-
-  many : counts.rules ≡ length (entries file)
-  many = listed_rules file e
-
-  part : length places ≡ counts.rules
-  part = length-take-le counts.rules table fits
-
+-- a table with a place for each rule: what a turn of the loop has, and the table after the last
+module _ (file : List ℕ) (places : List Rule) (size : length places ≡ length (entries file)) where
   module _ {at i : ℕ} {rules : List Rule} (s : Stored file places at i rules) where
     pub turn_inside : i < length places → at + size_at file at ≤ length file
-    turn_inside h = (walked_begins s.walked (omega (arith, many, part))).inside
+    turn_inside h = (walked_begins s.walked (omega arith)).inside
 
-    pub turn_next : i < length places → Stored file places (at + size_at file at) (i + 1) (set rules i (rule_at file at))
-    turn_next h = stored_next s (omega (arith, many, part)) h
+    pub turn_next : i < length places → {next : ℕ} {r : Rule} → next ≡ at + size_at file at → r ≡ rule_at file at →
+        Stored file places next (i + 1) (set rules i r)
+    turn_next h e f = rw (e, f) (stored_next s (omega arith) h)
 
-    pub stored_all : length places ≤ i → rules ++ drop counts.rules table ≡ over (λ q. q) (entries file) table
-    unfolding over
+    pub stored_all : length places ≤ i → rules ≡ rules_of_file file
     stored_all h =
         let fresh = rules_of_file file in
-        let all : length fresh ≡ length (entries file) = length-map (entries file) (λ (q : Entry). q.rule) in
-        let whole : take i fresh ≡ fresh = take_all i fresh (omega (arith, many, part)) in
+        let whole : take i fresh ≡ fresh = take_all i fresh (omega (arith, length-map (entries file) (λ (q : Entry). q.rule))) in
         let none : drop i places ≡ [] = drop_of_length-le places {i = i} h in
-        ap (λ (q : List Rule). q ++ drop counts.rules table) (s.is ∙ ap (λ (q : List Rule). q ++ drop i places) whole ∙ ap (λ (q : List Rule). fresh ++ q) none ∙ append-nil fresh)
-        ∙ ap (λ (n : ℕ). fresh ++ drop n table) many
+        s.is ∙ ap (λ (q : List Rule). q ++ drop i places) whole ∙ ap (λ (q : List Rule). fresh ++ q) none ∙ append-nil fresh

@@ -1,33 +1,40 @@
 -- A rule's record has the bytes from which the reader took the rule. Assumes nothing.
 use mathlib.Core.Path.{◌≡◌, refl, sym, ap, subst, ◌∙◌}
+use mathlib.Core.Bool.{cond}
 use mathlib.Core.List.{List, []}
 use Prim.Native.Nat.{ℕ, zero, suc, ◌+◌, ◌<◌, ◌≤◌}
 use native.Mathlib.Decide.{dec_lt, ℕ_discrete}
 use native.Mathlib.Nat.{min-eq_left}
 use native.Mathlib.Numerals.{add-one}
 use native.Mathlib.Omega.{arith}
+use lib.Dec.{eqb}
 use lib.ListN.{length, take, drop, get_or, length-take, length-drop}
 use lib.Seq.{get_or-take, get_or-drop}
-use lib.IntN.{pos, ◌*ℤ◌}
+use lib.IntN.{ℤ, pos, ◌*ℤ◌}
 use Rattle.derivation.specs.Refusals.{Reply, refused, answer, verdict}
+use Rattle.bookfile.specs.declared.reading.LatestTime.{LatestTime}
 use Rattle.bookfile.specs.Numbers.{word, long, signed16, signed32}
-use Rattle.bookfile.specs.Reading.{HR, size_at, rule_at, offset_at, head_checks, Entry, rules_of, after, book_reply, entries_of, entries, record_of}
-use Rattle.bookfile.specs.Replies.{Listed}
+use Rattle.bookfile.specs.Kinds.{RU, HR, rule_with, kind_at, size_at, rule_at}
+use Rattle.bookfile.specs.Reading.{head_checks, entry, Entry, after, read, reading, latest_of, rules_begin, rules_of, book_reply, entries, record_of}
+use Rattle.bookfile.specs.Inner.{Listed}
 use Rattle.bookfile.specs.Theorems.{TakenFrom, RecordFacts}
-use Rattle.bookfile.proofs.Records.{size_bounds, size_hours, size_minutes, offset_hours, offset_minutes}
+use Rattle.bookfile.proofs.Records.{size_bounds, size_hours, size_minutes, rule_hours, rule_minutes}
 use Rattle.bookfile.proofs.Walks.{Walked, walked_none, walked_next, walked_begins, record_none, record_here}
 
 -- a file with rules is not refused
-listed_some : (head : Reply (Unit {0})) (rules : Reply (List Entry)) → 1 ≤ length (entries_of (after head rules)) →
-    (head ≡ answer tt) × (rules ≡ answer (entries_of (after head rules)))
-unfolding after entries_of
-listed_some (refused number place) rules h = absurd (omega arith)
-listed_some (answer tt) (refused number place) h = absurd (omega arith)
-listed_some (answer tt) (answer es) h = (refl, refl)
+listed_some : (head : Reply (Unit {0})) (times : Reply (List LatestTime)) (rules : Reply (List Entry)) →
+    1 ≤ length (read (after head (after times rules))) →
+    (head ≡ answer tt) × (times ≡ answer (read times)) × (rules ≡ answer (read (after head (after times rules))))
+unfolding after read
+listed_some (refused number place) times rules h = absurd (omega arith)
+listed_some (answer tt) (refused number place) rules h = absurd (omega arith)
+listed_some (answer tt) (answer found) (refused number place) h = absurd (omega arith)
+listed_some (answer tt) (answer found) (answer es) h = (refl, refl, refl)
 
 listed_by : (file : List ℕ) → 1 ≤ length (entries file) → Listed file
-unfolding book_reply
-listed_by file h = let p = listed_some (verdict (head_checks file)) (rules_of file) h in record { head = p.0; all = p.1 }
+unfolding book_reply reading
+listed_by file h =
+    let p = listed_some (verdict (head_checks file)) (latest_of file) (rules_of file) h in record { head = p.0; times = p.1; all = p.2 }
 
 -- where the walk stands after i rules
 record Stands (file : List ℕ) (i : ℕ) : Type 0 where
@@ -35,7 +42,7 @@ record Stands (file : List ℕ) (i : ℕ) : Type 0 where
   walked : Walked file byte i
 
 stands : (file : List ℕ) → Listed file → (i : ℕ) → i ≤ length (entries file) → Stands file i
-stands file l zero h = record { byte = 4; walked = walked_none file l }
+stands file l zero h = record { byte = rules_begin file; walked = walked_none file l }
 stands file l (suc i) h =
     let s = stands file l i (omega arith) in
     record {
@@ -68,24 +75,25 @@ module _ (file : List ℕ) (at : ℕ) (h : at + size_at file at ≤ length file)
   mark_here : word bytes 0 ≡ word file at
   mark_here = word_here 0 (omega (arith, size_bounds file at)) ∙ ap (word file) (omega arith)
 
-  offset_here : offset_at bytes 0 ≡ offset_at file at
-  offset_here = go (ℕ_discrete (word file at) HR)
-    where
-      go : Dec (word file at ≡ HR) → offset_at bytes 0 ≡ offset_at file at
-      go (yes e) =
-          sym (offset_hours bytes 0 (mark_here ∙ e)) ∙ ap (λ (n : ℕ). pos 60 *ℤ signed16 n) (word_here 8 (omega (arith, size_hours file at e))) ∙ offset_hours file at e
-      go (no e) =
-          sym (offset_minutes bytes 0 (λ q. e (sym mark_here ∙ q))) ∙ ap signed32 (long_here 8 (omega (arith, size_minutes file at e))) ∙ offset_minutes file at e
+  fields_here : (k : ℤ) → rule_with bytes 0 k ≡ rule_with file at k
+  unfolding rule_with
+  fields_here k = let b = size_bounds file at in rw (word_here 2 (omega arith), word_here 4 (omega arith), word_here 6 (omega arith))
 
   rule_here : rule_at bytes 0 ≡ rule_at file at
-  unfolding rule_at
-  rule_here =
-      let b = size_bounds file at in
-      rw (word_here 2 (omega arith), word_here 4 (omega arith), word_here 6 (omega arith), offset_here)
+  rule_here = go (ℕ_discrete (word file at) HR.mark)
+    where
+      go : Dec (word file at ≡ HR.mark) → rule_at bytes 0 ≡ rule_at file at
+      go (yes e) =
+          sym (rule_hours bytes 0 (mark_here ∙ e)) ∙ fields_here _
+          ∙ ap (λ (n : ℕ). rule_with file at (pos 60 *ℤ signed16 n)) (word_here 8 (omega (arith, size_hours file at e)))
+          ∙ rule_hours file at e
+      go (no e) =
+          sym (rule_minutes bytes 0 (λ q. e (sym mark_here ∙ q))) ∙ fields_here _
+          ∙ ap (λ (n : ℕ). rule_with file at (signed32 n)) (long_here 8 (omega (arith, size_minutes file at e))) ∙ rule_minutes file at e
 
   size_here : size_at bytes 0 ≡ size_at file at
-  unfolding size_at
-  size_here = rw mark_here
+  unfolding size_at kind_at
+  size_here = ap (λ (w : ℕ). (cond (eqb w HR.mark) HR RU).size) mark_here
 
 module _ (file : List ℕ) (number : ℕ) where
   taken_from : number < length (entries file) → TakenFrom file number
@@ -94,7 +102,7 @@ module _ (file : List ℕ) (number : ℕ) where
       let b = walked_begins s.walked h in
       let e = record_here file number b in
       record {
-        entry = record { at = s.byte; rule = rule_at file s.byte };
+        entry = entry s.byte (rule_at file s.byte);
         here = b.here;
         stretch = sym e;
         whole = rw (← e) (bytes_length file s.byte b.inside ∙ sym (size_here file s.byte b.inside));

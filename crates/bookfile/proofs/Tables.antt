@@ -1,74 +1,113 @@
 -- The rules of a file that is not refused pass the table's checks. Assumes nothing.
-use mathlib.Core.Path.{◌≡◌, sym, ap}
+use mathlib.Core.Path.{◌≡◌, refl, sym, ap, ◌∙◌}
 use mathlib.Core.Bool.{Bool, true, false, cond}
 use mathlib.Core.List.{List, [], ◌∷◌, map}
 use Prim.Native.Nat.{ℕ, zero, suc, ◌+◌, ◌≤◌}
 use native.Mathlib.Omega.{arith}
 use borrow.Author.Tests.{le-ltb}
-use lib.Dec.{leb}
+use lib.Dec.{eqb, leb}
+use lib.IntN.{pos}
 use lib.ListN.{length, length-map}
-use Rattle.maxatom.specs.Book.{Each}
-use Rattle.derivation.specs.declared.Counts.{Counts}
+use Rattle.maxatom.specs.Book.{most_jobs, most_rules, Each}
+use Rattle.maxatom.specs.Accepted.{InTime}
 use Rattle.maxatom.specs.declared.Rule.{Rule}
-use Rattle.derivation.specs.Refusals.{answer, accepts, Check, rule_checks, table_checks}
-use Rattle.derivation.proofs.Checks.{answer_not, passed, accepting, accepted_iff}
+use Rattle.derivation.specs.declared.Counts.{Counts}
+use Rattle.derivation.specs.Refusals.{answer, accepts, rule_checks, table_checks, latest_outside, book_checks, NotRefused}
+use Rattle.derivation.proofs.Checks.{Passes, answer_not, passed, accepting, in_time, latest_passes, accepted_iff}
+use Rattle.maxatom.proofs.Lists.{each_join}
+use Rattle.bookfile.specs.declared.reading.LatestTime.{LatestTime}
 use Rattle.bookfile.specs.Numbers.{word}
-use Rattle.bookfile.specs.Reading.{size_at, record_checks, rule_reply, head_checks, Entry, before, rules_from, entries}
+use Rattle.bookfile.specs.Kinds.{jobs_at, kind_at, size_at}
+use Rattle.bookfile.specs.Reading.{head_checks, record_checks, rule_reply, entry, Entry, before, rules_from, read, latest_of, rules_begin, entries, rules_of_file, minute_of, minutes_from, latest_of_file, book_of_file}
 use Rattle.bookfile.specs.Replies.{file_reply}
-use Rattle.bookfile.specs.Theorems.{rules_of_file, ReadAccepted}
-use Rattle.bookfile.proofs.Records.{outside_same}
-use Rattle.bookfile.proofs.Rules.{passes, rule_is, not_full}
-use Rattle.bookfile.proofs.Walks.{split, listed, listed_counts}
-
-abbrev Passed : Check → Type 0
-Passed c = c.fails ≡ false
+use Rattle.bookfile.specs.Theorems.{ReadAccepted}
+use Rattle.bookfile.proofs.Records.{own_checks}
+use Rattle.bookfile.proofs.Rules.{looks, passes, rule_is, not_full}
+use Rattle.bookfile.proofs.Filling.{Good, good_from}
+use Rattle.bookfile.specs.Inner.{Listed}
+use Rattle.bookfile.proofs.Walks.{split, listed, listed_jobs, listed_rules, latest_length}
 
 abbrev rule_of : Entry → Rule
 rule_of e = e.rule
 
 -- the rules that were read pass the checks of a table, and are no more than 1,024
 record Fine (jobs number count : ℕ) (es : List Entry) : Type 0 where
-  pass : Each Passed (rule_checks jobs number (map rule_of es))
-  few : count + length es ≤ 1024
+  pass : Each Passes (rule_checks jobs number (map rule_of es))
+  few : count + length es ≤ most_rules
 
-fine_none : (jobs number count : ℕ) (es : List Entry) → count ≤ 1024 → answer [] ≡ answer es → Fine jobs number count es
+fine_none : (jobs number count : ℕ) (es : List Entry) → count ≤ most_rules → answer [] ≡ answer es → Fine jobs number count es
 unfolding rule_checks
 fine_none jobs number count [] h e = record { pass = tt; few = omega arith }
 fine_none jobs number count (d ∷ es) h e = absurd (let z : ◌≡◌ {A = List Entry} [] (d ∷ es) = cc in omega (arith, ap length z))
 
-fine : (most jobs : ℕ) (file : List ℕ) (number count at : ℕ) (es : List Entry) → count ≤ 1024 → rules_from most jobs file count at ≡ answer es → Fine jobs number count es
+fine : (most jobs : ℕ) (file : List ℕ) (number count at : ℕ) (es : List Entry) → count ≤ most_rules →
+    rules_from most jobs file count at ≡ answer es → Fine jobs number count es
 unfolding rules_from rule_checks record_checks
 fine zero jobs file number count at es h e = absurd (answer_not (sym e))
 fine (suc most) jobs file number count at es h e =
     go (leb (length file) at) (λ others c q. fine most jobs file (number + 1) (count + 1) (at + size_at file at) others c q) e
   where
     go : (t : Bool) →
-        ((others : List Entry) → count + 1 ≤ 1024 → rules_from most jobs file (count + 1) (at + size_at file at) ≡ answer others → Fine jobs (number + 1) (count + 1) others) →
-        cond t (answer []) (before at (rule_reply jobs file count at) (rules_from most jobs file (count + 1) (at + size_at file at))) ≡ answer es → Fine jobs number count es
+        ((others : List Entry) → count + 1 ≤ most_rules → rules_from most jobs file (count + 1) (at + size_at file at) ≡ answer others →
+        Fine jobs (number + 1) (count + 1) others) →
+        cond t (answer []) (before (entry at) (rule_reply jobs file count at) (rules_from most jobs file (count + 1) (at + size_at file at)))
+        ≡ answer es → Fine jobs number count es
     go true f q = fine_none jobs number count es h q
     go false f q =
         let s = split at (rule_reply jobs file count at) (rules_from most jobs file (count + 1) (at + size_at file at)) es q in
         let p = passes jobs file count at s.says_first in
+        let own : Each Passes ((kind_at file at).checks jobs file at) = p.1.1.1.1 in
+        let fields = rw (own_checks file at jobs) at own in
         let r = rule_is jobs file count at s.says_first in
         let n = not_full jobs file count at s.says_first in
         let m = f s.others (omega arith) s.says_more in
         rw s.is
         (record {
-          pass = (rw r p.1.1.1.1.1.0, (rw (r, ← outside_same file at) p.1.1.1.1.1.1.0, m.pass));
+          pass = (rw r fields.1.0, (rw r fields.1.1.0, m.pass));
           few = omega (arith, m.few);
         })
 
-pub read_accepted : ReadAccepted
-unfolding table_checks head_checks accepts
-read_accepted file counts e =
-    let l = listed file e in
-    let c = listed_counts file e in
-    let f = fine 1025 (word file 2) file 0 0 4 (entries file) (omega arith) l.all in
+-- the latest times that were read, and zero, are within the bounds
+minute_in : (jobs : ℕ) (given : List ℕ) (found : List LatestTime) → Good jobs given found → (job : ℕ) → InTime (minute_of job found)
+unfolding minute_of latest_outside
+minute_in jobs given [] g job = in_time (pos 0) refl
+minute_in jobs given (t ∷ more) g job = go (eqb t.job job) (minute_in jobs (t.job ∷ given) more g.3 job)
+  where
+    go : (b : Bool) → InTime (minute_of job more) → InTime (cond b t.minute (minute_of job more))
+    go true h = in_time t.minute g.1
+    go false h = h
+
+minutes_in : (found : List LatestTime) → ((job : ℕ) → InTime (minute_of job found)) → (job jobs : ℕ) →
+    Each InTime (minutes_from job jobs found)
+unfolding minutes_from
+minutes_in found h job zero = tt
+minutes_in found h job (suc jobs) = (h job, minutes_in found h (job + 1) jobs)
+
+latest_in : (file : List ℕ) → Listed file → Each InTime (latest_of_file file)
+unfolding latest_of_file
+latest_in file l =
+    let times = read (latest_of file) in
+    minutes_in times (minute_in (word file 2) [] times (good_from (most_jobs + 1) (word file 2) file [] 4 times l.times)) 0 (word file 2)
+
+not_refused : (file : List ℕ) → Listed file → NotRefused (book_of_file file)
+unfolding book_checks table_checks head_checks jobs_at accepts
+not_refused file l =
+    let f = fine looks (word file 2) file 0 0 (rules_begin file) (entries file) (omega arith) l.all in
     let n = length-map (entries file) rule_of in
     let h = (passed (head_checks file) tt (ap accepts l.head)).1.1.1.1.0 in
-    let t : Each Passed (table_checks (word file 2) (rules_of_file file)) = (h, (le-ltb 1024 (length (rules_of_file file)) (omega (arith, n, f.few)), f.pass)) in
-    rw c ((accepted_iff (tt {0}) (word file 2) (rules_of_file file)).1 (ap accepts (accepting (table_checks (word file 2) (rules_of_file file)) (tt {0}) t)), sym n)
+    let t : Each Passes (table_checks (word file 2) (rules_of_file file)) =
+    (h, (le-ltb most_rules (length (rules_of_file file)) (omega (arith, n, f.few)), f.pass)) in
+    accepting (book_checks (book_of_file file)) (tt {0})
+    (each_join Passes (table_checks (word file 2) (rules_of_file file)) _ t
+    (latest_passes (word file 2) (latest_of_file file) (latest_length file) (latest_in file l)))
 
--- 1,024 places hold the rules of any file that is not refused
-pub few_rules : (file : List ℕ) {counts : Counts} → file_reply file ≡ answer counts → counts.rules ≤ 1024
-few_rules file e = let a = read_accepted file _ e in omega (arith, a.1, a.0.short)
+pub read_accepted : ReadAccepted
+read_accepted file counts e =
+    (not_refused file (listed file e), listed_jobs file e, listed_rules file e ∙ sym (length-map (entries file) rule_of))
+
+-- 1,024 places hold the rules of any file that is not refused, and 256 its latest times
+pub few_rules : (file : List ℕ) {counts : Counts} → file_reply file ≡ answer counts → counts.rules ≤ most_rules
+few_rules file e = let a = read_accepted file _ e in omega (arith, a.2, ((accepted_iff (book_of_file file)).0 a.0).short)
+
+pub few_jobs : (file : List ℕ) {counts : Counts} → file_reply file ≡ answer counts → counts.jobs ≤ most_jobs
+few_jobs file e = let a = read_accepted file _ e in omega (arith, a.1, ((accepted_iff (book_of_file file)).0 a.0).few)

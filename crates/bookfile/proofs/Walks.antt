@@ -1,26 +1,40 @@
 -- The rules of a file that is not refused, walked one by one. Assumes nothing.
 use mathlib.Core.Path.{◌≡◌, refl, sym, ap, ◌∙◌}
-use mathlib.Core.List.{List, [], ◌∷◌}
-use Prim.Native.Nat.{ℕ, ◌+◌, ◌-◌, ◌<◌, ◌≤◌}
+use mathlib.Core.Logic.{◌⊎◌, ⊎_elim}
+use mathlib.Core.List.{List, [], ◌∷◌, ◌++◌}
+use Prim.Native.Nat.{ℕ, zero, suc, ◌+◌, ◌-◌, ◌<◌, ◌≤◌}
 use native.Mathlib.Omega.{arith}
 use native.Mathlib.Decide.{dec_lt}
 use borrow.Author.Tests.{ltb-false, lt-ltb, le-ltb}
-use lib.ListN.{length, take, drop, length-drop, drop_of_length-le}
+use lib.IntN.{ℤ}
+use lib.Dec.{ltb}
+use lib.ListN.{length, take, drop, length-drop, length-map, drop_of_length-le}
 use lib.Seq.{drop-drop}
+use Rattle.maxatom.specs.Book.{most_jobs, most_rules}
 use Rattle.maxatom.specs.declared.Rule.{Rule}
 use Rattle.maxatom.proofs.Choose.{cond_yes, cond_no}
 use Rattle.derivation.specs.Refusals.{Reply, refused, answer, accepts, reply, verdict, lent}
-use Rattle.derivation.proofs.Checks.{passed, accepting, refused_same}
-use Rattle.bookfile.specs.Numbers.{word}
-use Rattle.bookfile.specs.Reading.{size_at, rule_at, rule_reply, head_checks, Entry, before, rules_from, rules_of, after, book_reply, entries_of, entries, place_at, place_of, stretch, record_of}
-use Rattle.bookfile.specs.Replies.{head_reply, counted, file_reply, roomed, read_reply, over, read_into, Listed, Begins}
+use Rattle.derivation.proofs.Checks.{answer_not, neither, passed, accepting, refused_same}
 use Rattle.derivation.specs.declared.Counts.{Counts}
-use Rattle.bookfile.proofs.Rules.{from_record, from_end, next, in_file, not_full, rule_is}
+use Rattle.bookfile.specs.declared.reading.LatestTime.{LatestTime}
+use Rattle.bookfile.specs.Numbers.{word}
+use Rattle.bookfile.specs.Kinds.{jobs_at, size_at, rule_at}
+use Rattle.bookfile.specs.Reading.{head_checks, rule_reply, entry, Entry, before, latest_from, rules_from, after, read, end_of, reading, latest_of, rules_begin, rules_of, book_reply, entries, rules_of_file, latest_of_file, minutes_from, place_at, place_of, stretch, record_of}
+use Rattle.bookfile.specs.Replies.{counted, file_reply, roomed, read_reply, over, read_rules, read_latest}
+use Rattle.bookfile.specs.Inner.{head_reply, ended, Listed, Begins}
+use Rattle.bookfile.proofs.Rules.{looks, from_record, from_end, next, in_file, not_full, rule_is}
 
--- a file by its first record
+-- what was read, and where it ended
+times_ended : (said : Reply (List LatestTime)) {begin : ℕ} → answer begin ≡ ended 4 said →
+    (said ≡ answer (read said)) × (begin ≡ end_of said)
+unfolding ended read end_of
+times_ended (refused number place) e = absurd (answer_not e)
+times_ended (answer times) e = (refl, cc)
+
+-- a file by its first record, and by its latest times
 module _ (file : List ℕ) where
   pub file_refused : {number place : ℕ} → head_reply file ≡ refused number place → refused number place ≡ file_reply file
-  unfolding head_reply file_reply book_reply after counted
+  unfolding head_reply file_reply book_reply reading after counted
   file_refused e = rw (refused_same (word file 2) (tt {0}) (head_checks file) e)
 
   -- the first record passes, and says the job count
@@ -31,40 +45,81 @@ module _ (file : List ℕ) where
       let a : answer (word file 2) ≡ answer jobs = sym (accepting (head_checks file) (word file 2) p) ∙ e in
       (accepting (head_checks file) (tt {0}) p, cc)
 
-  pub file_rest : {jobs : ℕ} → head_reply file ≡ answer jobs → counted jobs (rules_from 1025 jobs file 0 4) ≡ file_reply file
-  unfolding file_reply book_reply after
-  file_rest e = let p = passes_head e in rw (p.0, p.1)
-
   pub head_long : {jobs : ℕ} → head_reply file ≡ answer jobs → 4 ≤ length file
   unfolding head_reply head_checks accepts
   head_long e = ltb-false _ _ (passed (head_checks file) (word file 2) (ap accepts e)).1.1.1.0
 
+  pub passes_few : verdict (head_checks file) ≡ answer tt → word file 2 ≤ most_jobs
+  unfolding head_checks jobs_at accepts
+  passes_few e =
+      ltb-false most_jobs (word file 2)
+      (neither (ltb (word file 2) 1) (ltb most_jobs (word file 2)) (passed (head_checks file) (tt {0}) (ap accepts e)).1.1.1.1.0).1
+
+  pub head_few : {jobs : ℕ} → head_reply file ≡ answer jobs → jobs ≤ most_jobs
+  head_few e = let p = passes_head e in rw (← p.1) (passes_few p.0)
+
+  module _ {jobs : ℕ} (e : head_reply file ≡ answer jobs) where
+    abbrev pub times : Reply (List LatestTime)
+    times = latest_from (most_jobs + 1) jobs file [] 4
+
+    pub file_times : {number place : ℕ} → refused number place ≡ ended 4 times → refused number place ≡ file_reply file
+    unfolding file_reply book_reply reading after counted ended
+    file_times {number} {place} f = let p = passes_head e in rw (p.0, p.1) (go times f)
+      where
+        go : (said : Reply (List LatestTime)) → refused number place ≡ ended 4 said →
+            refused number place ≡ counted jobs (after said (rules_from (most_rules + 1) jobs file 0 (end_of said)))
+        go (refused n q) g =
+            let h : ◌≡◌ {A = Reply ℕ} (refused number place) (refused n q) = g in
+            let a : number ≡ n = cc in
+            let b : place ≡ q = cc in
+            rw (a, b)
+        go (answer found) g = absurd (answer_not (sym g))
+
+    module _ {begin : ℕ} (f : answer begin ≡ ended 4 times) where
+      pub file_begin : begin ≡ rules_begin file
+      file_begin = let p = passes_head e in rw p.1 (times_ended times f).1
+
+      pub file_rest : counted jobs (rules_from (most_rules + 1) jobs file 0 begin) ≡ file_reply file
+      unfolding file_reply book_reply reading after
+      file_rest = let p = passes_head e in let t = times_ended times f in rw (p.0, p.1, t.1) (rw t.0)
+
 -- a file that is not refused, from its reply
 module _ (file : List ℕ) {counts : Counts} (e : file_reply file ≡ answer counts) where
-  listed_all : (head : Reply (Unit {0})) (rules : Reply (List Entry)) → counted (word file 2) (after head rules) ≡ answer counts →
-      (head ≡ answer tt) × (rules ≡ answer (entries_of (after head rules))) × (counts ≡ record { jobs = word file 2; rules = length (entries_of (after head rules)) })
-  unfolding counted after entries_of
-  listed_all (refused number place) rules q = absurd (let z : ◌≡◌ {A = ℕ} 0 1 = cc in omega arith)
-  listed_all (answer tt) (refused number place) q = absurd (let z : ◌≡◌ {A = ℕ} 0 1 = cc in omega arith)
-  listed_all (answer tt) (answer es) q = (refl, refl, cc)
+  listed_all : (head : Reply (Unit {0})) (times : Reply (List LatestTime)) (rules : Reply (List Entry)) →
+      counted (word file 2) (after head (after times rules)) ≡ answer counts →
+      (head ≡ answer tt) × (times ≡ answer (read times)) × (rules ≡ answer (read (after head (after times rules))))
+      × (counts ≡ record { jobs = word file 2; rules = length (read (after head (after times rules))) })
+  unfolding counted after read
+  listed_all (refused number place) times rules q = absurd (answer_not (sym q))
+  listed_all (answer tt) (refused number place) rules q = absurd (answer_not (sym q))
+  listed_all (answer tt) (answer found) (refused number place) q = absurd (answer_not (sym q))
+  listed_all (answer tt) (answer found) (answer es) q = (refl, refl, refl, cc)
 
   pub listed : Listed file
-  unfolding file_reply book_reply
-  listed = let p = listed_all (verdict (head_checks file)) (rules_of file) e in record { head = p.0; all = p.1 }
+  unfolding file_reply book_reply reading
+  listed =
+      let p = listed_all (verdict (head_checks file)) (latest_of file) (rules_of file) e in record { head = p.0; times = p.1; all = p.2 }
 
   pub listed_counts : counts ≡ record { jobs = word file 2; rules = length (entries file) }
-  unfolding file_reply book_reply
-  listed_counts = (listed_all (verdict (head_checks file)) (rules_of file) e).2
+  unfolding file_reply book_reply reading
+  listed_counts = (listed_all (verdict (head_checks file)) (latest_of file) (rules_of file) e).3
 
--- its rules are as many as it says
+pub listed_long : (file : List ℕ) → Listed file → 4 ≤ length file
+unfolding head_checks accepts
+listed_long file l = ltb-false _ _ (passed (head_checks file) (tt {0}) (ap accepts l.head)).1.1.1.0
+
+-- its jobs and its rules are as many as it says
+pub listed_jobs : (file : List ℕ) {counts : Counts} → file_reply file ≡ answer counts → counts.jobs ≡ word file 2
+listed_jobs file e = ap (λ (q : Counts). q.jobs) (listed_counts file e)
+
 pub listed_rules : (file : List ℕ) {counts : Counts} → file_reply file ≡ answer counts → counts.rules ≡ length (entries file)
 listed_rules file e = ap (λ (q : Counts). q.rules) (listed_counts file e)
 
 -- a file that is refused has no rules
-no_rules : (jobs : ℕ) (said : Reply (List Entry)) {number place : ℕ} → counted jobs said ≡ refused number place → entries_of said ≡ []
-unfolding counted entries_of
+no_rules : (jobs : ℕ) (said : Reply (List Entry)) {number place : ℕ} → counted jobs said ≡ refused number place → read said ≡ []
+unfolding counted read
 no_rules jobs (refused n p) e = refl
-no_rules jobs (answer es) e = absurd (let z : ◌≡◌ {A = ℕ} 0 1 = cc in omega arith)
+no_rules jobs (answer es) e = absurd (answer_not e)
 
 pub refused_none : (file : List ℕ) {number place : ℕ} → file_reply file ≡ refused number place → entries file ≡ []
 unfolding file_reply
@@ -73,10 +128,10 @@ refused_none file e = no_rules (word file 2) (book_reply file) e
 -- the first i rules are walked, and the next record begins at byte `at`
 pub record Walked (file : List ℕ) (at i : ℕ) : Type 0 where
   pub low : i ≤ length (entries file)
-  pub few : i ≤ 1024
-  pub rest : rules_from (1025 - i) (word file 2) file i at ≡ answer (drop i (entries file))
+  pub few : i ≤ most_rules
+  pub rest : rules_from (looks - i) (word file 2) file i at ≡ answer (drop i (entries file))
 
-pub walked_none : (file : List ℕ) → Listed file → Walked file 4 0
+pub walked_none : (file : List ℕ) → Listed file → Walked file (rules_begin file) 0
 walked_none file l = record { low = omega arith; few = omega arith; rest = l.all }
 
 -- a rule before others
@@ -87,10 +142,11 @@ pub record Split (at : ℕ) (said : Reply Rule) (more : Reply (List Entry)) (es 
   pub says_more : more ≡ answer others
   pub is : es ≡ record { at = at; rule = first } ∷ others
 
-pub split : (at : ℕ) (said : Reply Rule) (more : Reply (List Entry)) (es : List Entry) → before at said more ≡ answer es → Split at said more es
+pub split : (at : ℕ) (said : Reply Rule) (more : Reply (List Entry)) (es : List Entry) → before (entry at) said more ≡ answer es →
+    Split at said more es
 unfolding before
-split at (refused number place) more es e = absurd (let z : ◌≡◌ {A = ℕ} 0 1 = cc in omega arith)
-split at (answer r) (refused number place) es e = absurd (let z : ◌≡◌ {A = ℕ} 0 1 = cc in omega arith)
+split at (refused number place) more es e = absurd (answer_not (sym e))
+split at (answer r) (refused number place) es e = absurd (answer_not (sym e))
 split at (answer r) (answer others) es e = record { first = r; others = others; says_first = refl; says_more = refl; is = cc }
 
 module _ {file : List ℕ} {at i : ℕ} (w : Walked file at i) (h : i < length (entries file)) where
@@ -153,38 +209,69 @@ module _ (file : List ℕ) (number : ℕ) where
   unfolding record_of stretch place_of place_at
   record_place = go (drop number (entries file))
     where
-      go : (es : List Entry) → take ((place_at file es).end - (place_at file es).start) (drop (place_at file es).start file) ≡ stretch file es
+      go : (es : List Entry) →
+          take ((place_at file es).end - (place_at file es).start) (drop (place_at file es).start file) ≡ stretch file es
       go [] = refl
       go (e ∷ es) = ap (λ (n : ℕ). take n (drop e.at file)) (omega arith)
 
 -- the reader, by what examining the file said
-module _ (file : List ℕ) (room : ℕ) where
-  pub read_refused : {number place : ℕ} → file_reply file ≡ refused number place → refused number place ≡ read_reply file room
+module _ (file : List ℕ) (rules latest : ℕ) where
+  pub read_refused : {number place : ℕ} → file_reply file ≡ refused number place → refused number place ≡ read_reply file rules latest
   unfolding read_reply roomed
   read_refused e = rw e
 
-  pub read_short : {counts : Counts} → file_reply file ≡ answer counts → room < counts.rules → refused 21 0 ≡ read_reply file room
-  unfolding read_reply roomed reply
-  read_short {counts} e h = rw e (sym (cond_yes _ _ (lt-ltb room counts.rules h)))
+  module _ {counts : Counts} (e : file_reply file ≡ answer counts) where
+    pub read_short : (rules < counts.rules) ⊎ ((counts.rules ≤ rules) × (latest < counts.jobs)) →
+        refused 21 0 ≡ read_reply file rules latest
+    unfolding read_reply roomed reply
+    read_short h =
+        rw e
+        (sym (⊎_elim (λ l. cond_yes _ _ (lt-ltb rules counts.rules l))
+        (λ m. cond_no _ _ (le-ltb rules counts.rules m.0) ∙ cond_yes _ _ (lt-ltb latest counts.jobs m.1)) h))
 
-  pub read_room : {counts : Counts} → file_reply file ≡ answer counts → counts.rules ≤ room → answer counts ≡ read_reply file room
-  unfolding read_reply roomed reply
-  read_room {counts} e h = rw e (sym (cond_no _ _ (le-ltb room counts.rules h)))
+    pub read_room : counts.rules ≤ rules → counts.jobs ≤ latest → answer counts ≡ read_reply file rules latest
+    unfolding read_reply roomed reply
+    read_room h l = rw e (sym (cond_no _ _ (le-ltb rules counts.rules h) ∙ cond_no _ _ (le-ltb latest counts.jobs l)))
 
-  module _ {A : Type 0} (field : Rule → A) (column : List A) where
-    pub left_alone : {number place : ℕ} → refused number place ≡ read_reply file room → column ≡ read_into file room field column
-    unfolding read_into lent
-    left_alone e = rw (← e)
+-- as many latest times as jobs
+pub minutes_length : (job jobs : ℕ) (found : List LatestTime) → length (minutes_from job jobs found) ≡ jobs
+unfolding minutes_from
+minutes_length job zero found = refl
+minutes_length job (suc jobs) found = ap suc (minutes_length (job + 1) jobs found)
 
-    pub written : {counts : Counts} → answer counts ≡ read_reply file room → over field (entries file) column ≡ read_into file room field column
-    unfolding read_into lent
-    written e = rw (← e)
+pub latest_length : (file : List ℕ) → length (latest_of_file file) ≡ word file 2
+unfolding latest_of_file
+latest_length file = minutes_length 0 (word file 2) (read (latest_of file))
 
--- what the code says of a file, of the place of a rule's record, and of a file for a table
-pub ruleset files = (file_refused, file_rest, head_long)
+module _ (file : List ℕ) (rules : List Rule) (latest : List ℤ) where
+  abbrev pub reply_here : Reply Counts
+  reply_here = read_reply file (length rules) (length latest)
+
+  -- nothing is written where it is refused, and the book where it is not
+  pub rules_left : {number place : ℕ} → refused number place ≡ reply_here → rules ≡ read_rules file rules latest
+  unfolding read_rules lent
+  rules_left e = rw (← e)
+
+  pub latest_left : {number place : ℕ} → refused number place ≡ reply_here → latest ≡ read_latest file rules latest
+  unfolding read_latest lent
+  latest_left e = rw (← e)
+
+  module _ {counts : Counts} (e : file_reply file ≡ answer counts) (f : answer counts ≡ reply_here) where
+    pub rules_written : rules_of_file file ++ drop counts.rules rules ≡ read_rules file rules latest
+    unfolding read_rules over lent
+    rules_written =
+        rw (← f)
+        (ap (λ (n : ℕ). rules_of_file file ++ drop n rules) (listed_rules file e ∙ sym (length-map (entries file) (λ (q : Entry). q.rule))))
+
+    pub latest_written : latest_of_file file ++ drop counts.jobs latest ≡ read_latest file rules latest
+    unfolding read_latest over lent
+    latest_written = rw (← f) (ap (λ (n : ℕ). latest_of_file file ++ drop n latest) (listed_jobs file e ∙ sym (latest_length file)))
+
+-- what the code says of a file, of the place of a rule's record, and of a file for a table and a list
+pub ruleset files = (file_refused, file_times, file_begin, file_rest, head_long, head_few)
 
 pub ruleset places = (listed, listed_rules, place_refused, place_none, place_here)
 
-pub ruleset readings = (listed, read_refused, read_short, read_room)
+pub ruleset readings = (listed, listed_jobs, listed_rules, read_refused, read_short, read_room)
 
 pub ruleset walks = (walked_begins, walked_next)

@@ -1,6 +1,8 @@
 pub mod Numbers
+pub mod Kinds
 pub mod Reading
-pub mod Marks
 pub mod Replies
+pub mod Inner
+pub mod Marks
 pub mod Writing
 pub mod Theorems

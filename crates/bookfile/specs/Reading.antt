@@ -1,117 +1,135 @@
--- The file of a book, read record by record.
-use Rattle.std.specs.Prelude.{Bool, cond, not, ◌||◌, List, [], ◌∷◌, ℕ, zero, suc, ◌+◌, ◌*◌, eqb, leb, ltb, length, take, drop, ℤ, pos, ◌*ℤ◌}
-use Rattle.std.specs.Int.Signed.{lt_z}
-use Rattle.maxatom.specs.Book.{minus}
-use Rattle.maxatom.specs.declared.Rule.{Rule}
-use Rattle.derivation.specs.Refusals.{Reply, refused, answer, Check, check, reply, verdict, jobs_check, job_outside}
-use Rattle.bookfile.specs.Numbers.{word, long, signed16, signed32}
+-- The file of a book, read record by record: the first record, then latest times, then rules to the end of the file.
+use Rattle.std.specs.Prelude.{Bool, cond, not, ◌&&◌, List, [], ◌∷◌, ◌++◌, map, ℕ, zero, suc, ◌+◌, ◌*◌, eqb, leb, length, take, drop, ℤ, pos}
 use Rattle.std.specs.declared.ops.Range.{Range}
-
--- the two-byte marks in ASCII
-abbrev pub BK : ℕ
-BK = 66 + 256 * 75
-
-abbrev pub RU : ℕ
-RU = 82 + 256 * 85
-
-abbrev pub HR : ℕ
-HR = 72 + 256 * 82
-
-unfoldable pub known : ℕ → Bool
-known mark = eqb mark BK || (eqb mark RU || eqb mark HR)
-
--- bytes in all of a rule's record
-unfoldable pub size_of : ℕ → ℕ
-size_of mark = cond (eqb mark HR) 10 12
-
-unfoldable pub size_at : List ℕ → ℕ → ℕ
-size_at file at = size_of (word file at)
-
--- hours, 16 bits signed, and k, 32 bits signed
-unfoldable pub hours_at : List ℕ → ℕ → ℤ
-hours_at file at = signed16 (word file (at + 8))
-
-unfoldable pub minutes_at : List ℕ → ℕ → ℤ
-minutes_at file at = signed32 (long file (at + 8))
-
--- the rule of the record that begins at byte `at`; with hours, k is 60 × hours
-unfoldable pub offset_at : List ℕ → ℕ → ℤ
-offset_at file at = cond (eqb (word file at) HR) (pos 60 *ℤ hours_at file at) (minutes_at file at)
-
-unfoldable pub rule_at : List ℕ → ℕ → Rule
-rule_at file at = record { x = word file (at + 2); y = word file (at + 4); z = word file (at + 6); k = offset_at file at }
-
--- offset or hours outside the bounds
-unfoldable pub beyond : ℕ → ℤ → Bool
-beyond limit n = lt_z n (minus limit) || lt_z (pos limit) n
-
-unfoldable pub outside_at : List ℕ → ℕ → Bool
-outside_at file at = cond (eqb (word file at) HR) (beyond 336 (hours_at file at)) (beyond 20160 (minutes_at file at))
-
--- the checks of a record past the first, `count` rules already read
-unfoldable pub record_checks : ℕ → List ℕ → ℕ → ℕ → List Check
-record_checks jobs file count at =
-    check (ltb (length file) (at + 2)) 1 at
-    ∷ check (not (known (word file at))) 2 at
-    ∷ check (eqb (word file at) BK) 3 at
-    ∷ check (leb 1024 count) 5 at
-    ∷ check (ltb (length file) (at + size_at file at)) 1 at
-    ∷ check (job_outside jobs (rule_at file at)) 6 at
-    ∷ check (outside_at file at) 7 at
-    ∷ []
-
-unfoldable pub rule_reply : ℕ → List ℕ → ℕ → ℕ → Reply Rule
-rule_reply jobs file count at = reply (record_checks jobs file count at) (rule_at file at)
+use Rattle.maxatom.specs.Book.{most_jobs, most_rules, Book, book}
+use Rattle.maxatom.specs.declared.Rule.{Rule}
+use Rattle.derivation.specs.Refusals.{Reply, refused, answer, Check, check, reply, verdict}
+use Rattle.bookfile.specs.Numbers.{word}
+use Rattle.bookfile.specs.Kinds.{cut, BK, CE, rule_marks, marks, among, kind_at, size_at, rule_at}
+use Rattle.bookfile.specs.declared.reading.LatestTime.{LatestTime}
 
 -- the checks of the first record
 unfoldable pub head_checks : List ℕ → List Check
 head_checks file =
-    check (ltb (length file) 2) 1 0
-    ∷ check (not (known (word file 0))) 2 0
-    ∷ check (not (eqb (word file 0) BK)) 3 0
-    ∷ check (ltb (length file) 4) 1 0
-    ∷ jobs_check (word file 2)
-    ∷ []
+    cut 2 file 0
+    ∷ check (not (among (word file 0) marks)) 2 0
+    ∷ check (not (eqb (word file 0) BK.mark)) 3 0
+    ∷ BK.checks (BK.says file 0) file 0
+
+-- the mark of a latest time stands at a byte
+unfoldable pub latest_here : List ℕ → ℕ → Bool
+latest_here file at = leb (at + 2) (length file) && eqb (word file at) CE.mark
+
+-- The checks of a latest time's record, whose mark and place are right. `again`: its job has a latest time already.
+unfoldable pub latest_checks : ℕ → List ℕ → Bool → ℕ → List Check
+latest_checks jobs file again at = CE.checks jobs file at ++ check again 9 at ∷ []
+
+unfoldable pub latest_reply : ℕ → List ℕ → Bool → ℕ → Reply LatestTime
+latest_reply jobs file again at = reply (latest_checks jobs file again at) (CE.says file at)
+
+-- the checks of a record behind the latest times, `count` rules already read
+unfoldable pub record_checks : ℕ → List ℕ → ℕ → ℕ → List Check
+record_checks jobs file count at =
+    cut 2 file at
+    ∷ check (not (among (word file at) marks)) 2 at
+    ∷ check (not (among (word file at) rule_marks)) 3 at
+    ∷ check (leb most_rules count) 5 at
+    ∷ (kind_at file at).checks jobs file at
+
+unfoldable pub rule_reply : ℕ → List ℕ → ℕ → ℕ → Reply Rule
+rule_reply jobs file count at = reply (record_checks jobs file count at) (rule_at file at)
 
 -- a rule, with the byte where its record begins
 pub record Entry : Type 0 where
   pub at : ℕ
   pub rule : Rule
 
--- the first failure ends the reading
-unfoldable pub before : ℕ → Reply Rule → Reply (List Entry) → Reply (List Entry)
-before at (refused number place) rest = refused number place
-before at (answer r) (refused number place) = refused number place
-before at (answer r) (answer entries) = answer (record { at = at; rule = r } ∷ entries)
+abbrev pub entry : ℕ → Rule → Entry
+entry at rule = record { at = at; rule = rule }
 
--- The rules from byte `at` to the end of the file, with `count` rules already read. The end of the file or a record is looked for at most `most`
--- times. A reading that comes to no end by then is refused with 5, at the byte where the next record would begin.
+-- the first failure ends the reading; what is read is kept before the others
+unfoldable pub before : {A B : Type 0} → (A → B) → Reply A → Reply (List B) → Reply (List B)
+before kept (refused number place) rest = refused number place
+before kept (answer a) (refused number place) = refused number place
+before kept (answer a) (answer more) = answer (kept a ∷ more)
+
+-- The latest times from byte `at` on; the jobs of `given` have one already. A record of one, or something else, is looked for at most `most`
+-- times. A reading that comes to no end by then is refused with 9, at the byte where the next record would begin.
+unfoldable pub latest_from : ℕ → ℕ → List ℕ → List ℕ → ℕ → Reply (List LatestTime)
+latest_from zero jobs file given at = refused 9 at
+latest_from (suc most) jobs file given at =
+    let job = (CE.says file at).job in
+    let rest = latest_from most jobs file (job ∷ given) (at + CE.size) in
+    cond (latest_here file at) (before (λ t. t) (latest_reply jobs file (among job given) at) rest) (answer [])
+
+-- The rules from byte `at` to the end of the file, with `count` rules already read. The end of the file or a record is looked for at most
+-- `most` times. A reading that comes to no end by then is refused with 5, at the byte where the next record would begin.
 unfoldable pub rules_from : ℕ → ℕ → List ℕ → ℕ → ℕ → Reply (List Entry)
 rules_from zero jobs file count at = refused 5 at
 rules_from (suc most) jobs file count at =
     let rest = rules_from most jobs file (count + 1) (at + size_at file at) in
-    cond (leb (length file) at) (answer []) (before at (rule_reply jobs file count at) rest)
-
--- The rules after the first record. 1,025 looks are enough: after 1,024 rules the last one finds the end of the file, or a record that is refused.
-abbrev pub rules_of : List ℕ → Reply (List Entry)
-rules_of file = rules_from 1025 (word file 2) file 0 4
+    cond (leb (length file) at) (answer []) (before (entry at) (rule_reply jobs file count at) rest)
 
 -- the first reply's refusal, else the second reply
 unfoldable pub after : {A B : Type 0} → Reply A → Reply B → Reply B
 after (refused number place) second = refused number place
 after (answer a) second = second
 
--- reading a file
-unfoldable pub book_reply : List ℕ → Reply (List Entry)
-book_reply file = after (verdict (head_checks file)) (rules_of file)
+-- what was read, nothing where it is refused
+unfoldable pub read : {A : Type 0} → Reply (List A) → List A
+read (refused number place) = []
+read (answer found) = found
 
-unfoldable pub entries_of : Reply (List Entry) → List Entry
-entries_of (refused number place) = []
-entries_of (answer entries) = entries
+-- the latest times behind the first record, with so many looks; and the byte behind them
+abbrev pub latest_by : ℕ → List ℕ → Reply (List LatestTime)
+latest_by most file = latest_from most (word file 2) file [] BK.size
+
+unfoldable pub end_of : Reply (List LatestTime) → ℕ
+end_of latest = BK.size + length (read latest) * CE.size
+
+-- reading a file, with so many looks for latest times and so many for rules
+unfoldable pub reading : ℕ → ℕ → List ℕ → Reply (List Entry)
+reading times rules file =
+    let latest = latest_by times file in
+    after (verdict (head_checks file)) (after latest (rules_from rules (word file 2) file 0 (end_of latest)))
+
+-- A book has at most 256 latest times and 1,024 rules. One look more finds what is behind them.
+abbrev pub latest_of : List ℕ → Reply (List LatestTime)
+latest_of file = latest_by (most_jobs + 1) file
+
+abbrev pub rules_begin : List ℕ → ℕ
+rules_begin file = end_of (latest_of file)
+
+abbrev pub rules_of : List ℕ → Reply (List Entry)
+rules_of file = rules_from (most_rules + 1) (word file 2) file 0 (rules_begin file)
+
+unfoldable pub book_reply : List ℕ → Reply (List Entry)
+book_reply file = reading (most_jobs + 1) (most_rules + 1) file
 
 -- the rules of a file, none where it is refused
 abbrev pub entries : List ℕ → List Entry
-entries file = entries_of (book_reply file)
+entries file = read (book_reply file)
+
+abbrev pub rules_of_file : List ℕ → List Rule
+rules_of_file file = map (λ (e : Entry). e.rule) (entries file)
+
+-- the minute of a job's record, zero where there is none
+unfoldable pub minute_of : ℕ → List LatestTime → ℤ
+minute_of job [] = pos 0
+minute_of job (t ∷ more) = let rest = minute_of job more in cond (eqb t.job job) t.minute rest
+
+-- the minutes of so many jobs, from a job on
+unfoldable pub minutes_from : ℕ → ℕ → List LatestTime → List ℤ
+minutes_from job zero times = []
+minutes_from job (suc more) times = minute_of job times ∷ minutes_from (job + 1) more times
+
+-- the latest time of each job
+unfoldable pub latest_of_file : List ℕ → List ℤ
+latest_of_file file = minutes_from 0 (word file 2) (read (latest_of file))
+
+-- the book of a file
+abbrev pub book_of_file : List ℕ → Book
+book_of_file file = book (word file 2) (latest_of_file file) (rules_of_file file)
 
 -- where the first entry's record stands in the file: from its first byte to the byte after its last; no bytes where there is none
 unfoldable pub place_at : List ℕ → List Entry → Range ℕ

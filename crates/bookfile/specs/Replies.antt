@@ -1,53 +1,38 @@
--- The replies of the calls.
-use Rattle.std.specs.Prelude.{◌≡◌, List, [], ◌∷◌, ◌++◌, map, ℕ, ◌+◌, ◌≤◌, ltb, length, drop, Result, Ok, Err}
+-- The replies of the calls that read.
+use Rattle.std.specs.Prelude.{List, [], ◌∷◌, ◌++◌, ℕ, ltb, length, drop, ℤ}
 use Rattle.maxatom.specs.declared.Rule.{Rule}
-use Rattle.derivation.specs.Refusals.{Reply, refused, answer, check, reply, verdict, lent}
-use Rattle.bookfile.specs.Numbers.{word}
-use Rattle.bookfile.specs.Reading.{size_at, rule_at, head_checks, Entry, rules_of, book_reply, entries}
+use Rattle.derivation.specs.Refusals.{Reply, refused, answer, Check, check, reply, lent}
 use Rattle.derivation.specs.declared.Counts.{Counts}
-use Rattle.derivation.specs.declared.Fault.{Fault}
-use Rattle.derivation.specs.Faults.{number_of}
-
--- what is found at a byte: a value, or a fault whose place the byte is
-abbrev pub said_at : {A : Type 0} → ℕ → Result A Fault → Reply A
-said_at place (Ok a) = answer a
-said_at place (Err fault) = refused (number_of fault) place
-
--- the first record says the job count
-unfoldable pub head_reply : List ℕ → Reply ℕ
-head_reply file = reply (head_checks file) (word file 2)
+use Rattle.bookfile.specs.Numbers.{word}
+use Rattle.bookfile.specs.Reading.{Entry, book_reply, rules_of_file, latest_of_file}
 
 unfoldable pub counted : ℕ → Reply (List Entry) → Reply Counts
 counted jobs (refused number place) = refused number place
 counted jobs (answer entries) = answer (record { jobs = jobs; rules = length entries })
 
--- 21: reader's table shorter than the rules
-unfoldable pub roomed : ℕ → Reply Counts → Reply Counts
-roomed room (refused number place) = refused number place
-roomed room (answer counts) = reply (check (ltb room counts.rules) 21 0 ∷ []) counts
-
 -- the verdict on a file: the job count and the rule count, or the first list's refusal
 unfoldable pub file_reply : List ℕ → Reply Counts
 file_reply file = counted (word file 2) (book_reply file)
 
--- the reader
-unfoldable pub read_reply : List ℕ → ℕ → Reply Counts
-read_reply file room = roomed room (file_reply file)
+-- 21: reader's table shorter than the rules, or its list shorter than n
+abbrev pub room_checks : ℕ → ℕ → Counts → List Check
+room_checks rules latest counts = check (ltb rules counts.rules) 21 0 ∷ check (ltb latest counts.jobs) 21 0 ∷ []
 
--- a field of each rule, written over the first places of what was there
-unfoldable pub over : {A : Type 0} → (Rule → A) → List Entry → List A → List A
-over field entries places = map (λ (e : Entry). field e.rule) entries ++ drop (length entries) places
+unfoldable pub roomed : ℕ → ℕ → Reply Counts → Reply Counts
+roomed rules latest (refused number place) = refused number place
+roomed rules latest (answer counts) = reply (room_checks rules latest counts) counts
 
--- the lent table after the reader: nothing lent changes where it is refused, and places past the last rule are left alone
-unfoldable pub read_into : {A : Type 0} → List ℕ → ℕ → (Rule → A) → List A → List A
-read_into file room field places = lent (read_reply file room) places (over field (entries file) places)
+-- the reader, lent a table of so many rules and a list of so many latest times
+unfoldable pub read_reply : List ℕ → ℕ → ℕ → Reply Counts
+read_reply file rules latest = roomed rules latest (file_reply file)
 
--- a file that is not refused
-pub record Listed (file : List ℕ) : Type 0 where
-  pub head : verdict (head_checks file) ≡ answer tt
-  pub all : rules_of file ≡ answer (entries file)
+-- new values over the first places of what was there
+unfoldable pub over : {A : Type 0} → List A → List A → List A
+over new places = new ++ drop (length new) places
 
--- the record of a rule begins at a byte, and is in the file
-pub record Begins (file : List ℕ) (number at : ℕ) : Type 0 where
-  pub here : drop number (entries file) ≡ record { at = at; rule = rule_at file at } ∷ drop (number + 1) (entries file)
-  pub inside : at + size_at file at ≤ length file
+-- The lent table and list after the reader: nothing lent changes where it is refused. Places past the last rule and the last job are left alone.
+unfoldable pub read_rules : List ℕ → List Rule → List ℤ → List Rule
+read_rules file rules latest = lent (read_reply file (length rules) (length latest)) rules (over (rules_of_file file) rules)
+
+unfoldable pub read_latest : List ℕ → List Rule → List ℤ → List ℤ
+read_latest file rules latest = lent (read_reply file (length rules) (length latest)) latest (over (latest_of_file file) latest)

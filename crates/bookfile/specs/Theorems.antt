@@ -1,34 +1,53 @@
 -- What is true of reading and writing.
-use Rattle.std.specs.Prelude.{◌≡◌, ◌↔◌, true, cond, List, [], ◌∷◌, ◌++◌, map, ℕ, zero, suc, ◌+◌, ◌<◌, ◌≤◌, leb, ltb, length, take, drop, ℤ}
+use Rattle.std.specs.Prelude.{◌≡◌, ◌↔◌, true, cond, List, [], ◌∷◌, ◌++◌, ℕ, zero, suc, ◌+◌, ◌<◌, ◌≤◌, leb, length, take, drop, ℤ, pos}
 use Rattle.std.specs.Int.{w32}
 use Rattle.std.proofs.Common.{SFits}
-use Rattle.maxatom.specs.Book.{Each, Accepted}
+use Rattle.maxatom.specs.Book.{most_jobs, most_rules, book, zeros, Each, minus}
 use Rattle.maxatom.specs.declared.Rule.{Rule}
-use Rattle.derivation.specs.Refusals.{refused, answer, Check, check, verdict}
+use Rattle.derivation.specs.Refusals.{refused, answer, Check, check, verdict, NotRefused}
 use Rattle.derivation.specs.Demand1.{Refuses, Refusing}
 use Rattle.derivation.specs.Examples.{example_b}
-use Rattle.bookfile.specs.Numbers.{word}
-use Rattle.bookfile.specs.Reading.{Entry, size_at, rule_at, record_checks, head_checks, rules_from, rules_of, book_reply, entries, stretch, record_of}
-use Rattle.bookfile.specs.Replies.{file_reply, read_reply, read_into}
 use Rattle.derivation.specs.declared.Counts.{Counts}
+use Rattle.bookfile.specs.declared.reading.LatestTime.{LatestTime}
+use Rattle.bookfile.specs.Numbers.{word}
+use Rattle.bookfile.specs.Kinds.{BK, CE, among, size_at, rule_at}
+use Rattle.bookfile.specs.Reading.{head_checks, latest_here, latest_checks, record_checks, Entry, rules_from, latest_by, reading, rules_begin, book_reply, entries, latest_of_file, book_of_file, stretch, record_of}
+use Rattle.bookfile.specs.Replies.{room_checks, file_reply, read_reply, read_rules, read_latest}
 use Rattle.bookfile.specs.Writing.{plan_bytes, plan_checks, plan_out}
 
--- The checks of the records from byte `at` to the end of the file, one record's behind another's, with `count` rules already read. The end of the
--- file or a record is looked for at most `most` times. Where no end is found by then, one more check fails, with 5.
+-- The checks of the latest times from byte `at` on, one record's behind another's; the jobs of `given` have one already. A record of one, or
+-- something else, is looked for at most `most` times. Where no end is found by then, one more check fails, with 9.
+unfoldable pub latest_checks_from : ℕ → ℕ → List ℕ → List ℕ → ℕ → List Check
+latest_checks_from zero jobs file given at = check true 9 at ∷ []
+latest_checks_from (suc most) jobs file given at =
+    let job = (CE.says file at).job in
+    let rest = latest_checks_from most jobs file (job ∷ given) (at + CE.size) in
+    cond (latest_here file at) (latest_checks jobs file (among job given) at ++ rest) []
+
+-- The checks of the records from byte `at` to the end of the file, one record's behind another's, with `count` rules already read. The end
+-- of the file or a record is looked for at most `most` times. Where no end is found by then, one more check fails, with 5.
 unfoldable pub checks_from : ℕ → ℕ → List ℕ → ℕ → ℕ → List Check
 checks_from zero jobs file count at = check true 5 at ∷ []
 checks_from (suc most) jobs file count at =
     let rest = checks_from most jobs file (count + 1) (at + size_at file at) in
     cond (leb (length file) at) [] (record_checks jobs file count at ++ rest)
 
--- All checks of a file, as one list: the first record's, and those of the records behind it. 1,025 looks are enough: after 1,024 rules the last one
--- finds the end of the file, or a record of which a check fails.
+-- All checks of a file, as one list: the first record's, those of the latest times, and those of the records behind them.
 abbrev pub file_checks : List ℕ → List Check
-file_checks file = head_checks file ++ checks_from 1025 (word file 2) file 0 4
+file_checks file =
+    head_checks file
+    ++ (latest_checks_from (most_jobs + 1) (word file 2) file [] BK.size
+    ++ checks_from (most_rules + 1) (word file 2) file 0 (rules_begin file))
 
--- and 21: reader's table shorter than the rules
-abbrev pub reader_checks : List ℕ → ℕ → List Check
-reader_checks file room = file_checks file ++ (check (ltb room (length (entries file))) 21 0 ∷ [])
+-- and 21: reader's table shorter than the rules, or its list shorter than n
+abbrev pub reader_checks : List ℕ → ℕ → ℕ → List Check
+reader_checks file rules latest =
+    file_checks file ++ room_checks rules latest (record { jobs = word file 2; rules = length (entries file) })
+
+-- The latest times of so many records, one behind another, from a byte on.
+unfoldable pub times_at : List ℕ → ℕ → ℕ → List LatestTime
+times_at file at zero = []
+times_at file at (suc more) = CE.says file at ∷ times_at file (at + CE.size) more
 
 -- The bytes of these entries' records, one record's behind another's.
 unfoldable pub stretches : List ℕ → List Entry → List ℕ
@@ -37,26 +56,31 @@ stretches file (e ∷ more) = stretch file (e ∷ more) ++ stretches file more
 
 -- Reading goes to the end of the file, or to its first refusal.
 pub record ToTheEnd (file : List ℕ) : Type 0 where
-  -- However many looks are allowed, the records of a reading that is not refused are all the bytes behind the first record.
-  pub whole : (most : ℕ) (read : List Entry) → rules_from most (word file 2) file 0 4 ≡ answer read → stretches file read ≡ drop 4 file
-  -- No refusal comes of the bound: were more than 1,025 looks allowed, the same would be said.
-  pub same : (more : ℕ) → rules_from (1025 + more) (word file 2) file 0 4 ≡ rules_of file
+  -- However many looks are allowed, the latest times of a reading that is not refused are those of the records behind the first one,
+  pub times : (most : ℕ) (found : List LatestTime) → latest_by most file ≡ answer found → found ≡ times_at file BK.size (length found)
+  -- and the records of its rules are all the bytes behind those.
+  pub whole : (most at : ℕ) (found : List Entry) → rules_from most (word file 2) file 0 at ≡ answer found →
+      stretches file found ≡ drop at file
+  -- No refusal comes of the bounds: were more than 257 and 1,025 looks allowed, the same would be said.
+  pub same : (more others : ℕ) → reading (most_jobs + 1 + more) (most_rules + 1 + others) file ≡ book_reply file
 
 -- Demand 1 for the calls on files: reading and writing
 pub record FileDemand1 : Type 0 where
   -- a file alone: nothing is lent that could change
-  pub examine : (file : List ℕ) → Refuses (1 ∷ 2 ∷ 3 ∷ 4 ∷ 5 ∷ 6 ∷ 7 ∷ []) (file_checks file) (file_reply file)
-  -- reader
-  pub read_book : (file : List ℕ) (rules : List Rule) →
-      Refusing (1 ∷ 2 ∷ 3 ∷ 4 ∷ 5 ∷ 6 ∷ 7 ∷ 21 ∷ []) (reader_checks file (length rules)) (read_reply file (length rules))
-      rules (read_into file (length rules) (λ (q : Rule). q) rules)
+  pub examine : (file : List ℕ) → Refuses (1 ∷ 2 ∷ 3 ∷ 4 ∷ 5 ∷ 6 ∷ 7 ∷ 8 ∷ 9 ∷ []) (file_checks file) (file_reply file)
+  -- reader: table and list
+  pub read_book : (file : List ℕ) (rules : List Rule) (latest : List ℤ) →
+      Refusing {S = List Rule × List ℤ} (1 ∷ 2 ∷ 3 ∷ 4 ∷ 5 ∷ 6 ∷ 7 ∷ 8 ∷ 9 ∷ 21 ∷ [])
+      (reader_checks file (length rules) (length latest)) (read_reply file (length rules) (length latest))
+      (rules, latest) (read_rules file rules latest, read_latest file rules latest)
   -- plan writer
   pub write_plan : (times : List ℤ) (out : List ℕ) (at : ℕ) →
       Refusing (4 ∷ 21 ∷ []) (plan_checks times out at) (verdict (plan_checks times out at)) out (plan_out times out at)
 
--- one buffer of 16,384 bytes is enough to reach any verdict, and has all rules
+-- one buffer of 16,384 bytes is enough to reach any verdict, and has all latest times and all rules
 pub record FirstBytes (file : List ℕ) : Type 0 where
   pub verdict : file_reply (take 16384 file) ≡ file_reply file
+  pub latest : latest_of_file (take 16384 file) ≡ latest_of_file file
   pub rules : book_reply (take 16384 file) ≡ book_reply file
 
 -- the bytes of a plan determine its times, of 32 bits each
@@ -76,14 +100,11 @@ pub record RecordFacts (file : List ℕ) (number : ℕ) : Type 0 where
   pub empty : (record_of file number ≡ []) ↔ (length (entries file) ≤ number)
   pub taken : number < length (entries file) → TakenFrom file number
 
--- the rules of a file
-abbrev pub rules_of_file : List ℕ → List Rule
-rules_of_file file = map (λ (e : Entry). e.rule) (entries file)
-
--- a file that is not refused holds a book that the table's checks accept
+-- a file that is not refused holds a book that the calls on a table take, with as many jobs and rules as the reply says
 abbrev pub ReadAccepted : Type 0
 ReadAccepted =
-    (file : List ℕ) (counts : Counts) → file_reply file ≡ answer counts → Accepted counts.jobs (rules_of_file file) × (counts.rules ≡ length (rules_of_file file))
+    (file : List ℕ) (counts : Counts) → file_reply file ≡ answer counts →
+    NotRefused (book_of_file file) × (counts.jobs ≡ (book_of_file file).jobs) × (counts.rules ≡ length (book_of_file file).rules)
 
 -- the file of example B, 52 bytes
 abbrev pub file_b : List ℕ
@@ -95,10 +116,18 @@ file_b =
     ∷ 82 ∷ 85 ∷ 1 ∷ 0 ∷ 0 ∷ 0 ∷ 3 ∷ 0 ∷ 25 ∷ 0 ∷ 0 ∷ 0
     ∷ []
 
+-- two jobs, of which the second has a latest time, an hour before zero; and no rule
+abbrev pub file_hour : List ℕ
+file_hour = 66 ∷ 75 ∷ 2 ∷ 0 ∷ 67 ∷ 69 ∷ 1 ∷ 0 ∷ 196 ∷ 255 ∷ 255 ∷ 255 ∷ []
+
 -- what these files say
 pub record FileExamples : Type 0 where
   pub counts_b : file_reply file_b ≡ answer (record { jobs = 4; rules = 4 })
-  pub rules_b : rules_of_file file_b ≡ example_b
+  pub book_b : book_of_file file_b ≡ zeros 4 example_b
   pub first_b : record_of file_b 0 ≡ 82 ∷ 85 ∷ 0 ∷ 0 ∷ 0 ∷ 0 ∷ 1 ∷ 0 ∷ 246 ∷ 255 ∷ 255 ∷ 255 ∷ []
+  pub counts_hour : file_reply file_hour ≡ answer (record { jobs = 2; rules = 0 })
+  pub book_hour : book_of_file file_hour ≡ book 2 (pos 0 ∷ minus 60 ∷ []) []
+  pub second_latest : file_reply (file_hour ++ drop 4 file_hour) ≡ refused 9 12
+  pub latest_behind : file_reply (file_b ++ drop 4 file_hour) ≡ refused 3 52
   pub cut_mark : file_reply (66 ∷ 75 ∷ 1 ∷ 0 ∷ 82 ∷ []) ≡ refused 1 4
   pub no_byte : file_reply [] ≡ refused 1 0

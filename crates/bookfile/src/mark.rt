@@ -1,19 +1,22 @@
 // The marks of a book file's records.
 ghost use Rattle.std.specs.Prelude.{◌≡◌};
-ghost use Rattle.bookfile.specs.Marks.{mark_of};
+ghost use Rattle.bookfile.specs.Marks.{mark_of, is_rule};
 
 use derivation::Fault;
 
-// What a record is: the book's first, a rule, or a rule whose offset is in hours.
+// What a record is: the book's first, a job's latest time, a rule, or a rule whose offset is in hours.
 #[derive(Clone, Copy, PartialEq, Eq)]
 pub enum Mark {
     Book,
+    Latest,
     Rule,
     Hours,
 }
 
 // Each mark's two letters, the first of which is the low byte. They are put together by hand, since a constant's value calls no function.
 const BOOK: u16 = b'B' as u16 + 256 * b'K' as u16;
+
+const LATEST: u16 = b'C' as u16 + 256 * b'E' as u16;
 
 const RULE: u16 = b'R' as u16 + 256 * b'U' as u16;
 
@@ -29,9 +32,21 @@ impl TryFrom<u16> for Mark {
     fn try_from(word: u16) -> Result<Mark, Fault> {
         match word {
             BOOK => Ok(Mark::Book),
+            LATEST => Ok(Mark::Latest),
             RULE => Ok(Mark::Rule),
             HOURS => Ok(Mark::Hours),
             _ => Err(Fault::UnknownMark),
+        }
+    }
+}
+
+impl Mark {
+    pub fn is_rule(self) -> bool
+        ensures { result ≡ is_rule self }
+    {
+        match self {
+            Mark::Book | Mark::Latest => false,
+            Mark::Rule | Mark::Hours => true,
         }
     }
 }

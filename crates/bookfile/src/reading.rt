@@ -1,28 +1,63 @@
 // The reader.
-ghost use Rattle.std.specs.Prelude.{◌≡◌, ◌+◌, ◌<◌, ◌≤◌, eqb, length};
-ghost use Rattle.maxatom.specs.declared.Rule.{Rule};
+ghost use Rattle.std.specs.Prelude.{◌≡◌, false, [], ◌+◌, ◌<◌, ◌≤◌, eqb, length, get_or, IfOk};
+ghost use Rattle.maxatom.specs.Book.{most_jobs, most_rules};
 ghost use Rattle.derivation.specs.Replies.{read_of};
 ghost use Rattle.bookfile.specs.Numbers.{word};
-ghost use Rattle.bookfile.specs.Reading.{HR, size_at, rule_at, rule_reply, rules_from, entries, place_of, record_of};
-ghost use Rattle.bookfile.specs.Replies.{said_at, counted, file_reply, read_reply, read_into, Listed, Begins, head_reply};
+ghost use Rattle.bookfile.specs.Kinds.{HR, latest_at, size_at, rule_at};
+ghost use Rattle.bookfile.specs.Reading.{latest_here, latest_reply, latest_from, rule_reply, rules_from, rules_begin, entries, rules_of_file, latest_of_file, place_of, record_of};
+ghost use Rattle.bookfile.specs.Replies.{counted, file_reply, read_reply, read_rules, read_latest};
+ghost use Rattle.bookfile.specs.Inner.{said_at, byte_of, head_reply, ended, checked_reply, Listed, Begins};
 
 use crate::bytes::{signed32, word};
 use crate::mark::Mark;
 use derivation::{Counts, Fault, Refusal};
 use maxatom::Rule;
 use std::ops::Range;
-use table::check_rule;
+use table::{check_rule, check_time};
+
+// A job and its latest time.
+#[derive(Clone, Copy)]
+struct LatestTime {
+    job: u16,
+    minute: i32,
+}
+
+// A file that is not refused: its counts, and the byte where the first rule's record begins.
+#[derive(Clone, Copy)]
+struct Checked {
+    counts: Counts,
+    begin: usize,
+}
+
+// A latest time's record begins at a byte.
+fn is_latest(file: &[u8], at: usize) -> bool
+    requires { at ≤ length file.now }
+    ensures { result ≡ latest_here file.now at }
+{
+    2 <= file.len() - at && Mark::try_from(word(file, at)) == Ok(Mark::Latest)
+}
+
+// The job and the minute of the latest time's record that begins at a byte.
+fn latest_at(file: &[u8], at: usize) -> LatestTime
+    requires { at + 8 ≤ length file.now }
+    ensures { result ≡ latest_at file.now at }
+{
+    LatestTime {
+        job: word(file, at + 2),
+        minute: signed32(file, at + 4),
+    }
+}
 
 // The record that begins at a byte has its offset in hours.
 fn is_in_hours(file: &[u8], at: usize) -> bool
     requires { at + 2 ≤ length file.now }
-    ensures { result ≡ eqb (word file.now at) HR }
+    ensures { result ≡ eqb (word file.now at) HR.mark }
 {
     Mark::try_from(word(file, at)) == Ok(Mark::Hours)
 }
 
 // Bytes in all of the rule's record that begins at a byte.
-#[tactic(auto, unfolding(crate::specs::Reading::size_at, crate::specs::Reading::size_of))]
+#[tactic(auto, unfolding(crate::specs::Kinds::size_at, crate::specs::Kinds::kind_at))]
 fn size_at(file: &[u8], at: usize) -> usize
     requires { at + 2 ≤ length file.now }
     ensures { result ≡ size_at file.now at }
@@ -49,7 +84,7 @@ pub fn rule_at(file: &[u8], at: usize) -> Rule
     }
 }
 
-// The byte where the record after it begins.
+// The byte where the record after a rule's begins.
 #[tactic(auto, using(crate::proofs::Records::size_bounds))]
 pub fn next_record(file: &[u8], at: usize) -> usize
     requires { at + size_at file.now at ≤ length file.now }
@@ -58,7 +93,30 @@ pub fn next_record(file: &[u8], at: usize) -> usize
     at + size_at(file, at)
 }
 
-// The record that begins at a byte, count rules already read: its checks in order.
+// The latest time's record that begins at a byte, its mark and place right: its other checks in order. `seen` is true at a job's place where
+// the job has a latest time already.
+#[tactic(auto, using(crate::proofs::Latest::latests))]
+fn read_latest(file: &[u8], jobs: usize, seen: &[bool], at: usize) -> Result<LatestTime, Fault>
+    requires at_in_bounds { at ≤ length file.now }
+    requires seen_len_bound { jobs ≤ length seen.now }
+    ensures { said_at at result ≡ latest_reply jobs file.now (get_or seen.now (latest_at file.now at).job false) at }
+{
+    if file.len() - at < 8 {
+        return Err(Fault::FileEnds);
+    }
+    let latest = latest_at(file, at);
+    let job = usize::from(latest.job);
+    if jobs <= job {
+        return Err(Fault::JobNumber);
+    }
+    check_time(latest.minute)?;
+    if seen[job] {
+        return Err(Fault::SecondLatest);
+    }
+    Ok(latest)
+}
+
+// The record that begins at a byte behind the latest times, count rules already read: its checks in order.
 #[tactic(auto, using(crate::proofs::Records::records))]
 fn read_record(file: &[u8], jobs: usize, count: usize, at: usize) -> Result<Rule, Fault>
     requires { at ≤ length file.now }
@@ -67,7 +125,7 @@ fn read_record(file: &[u8], jobs: usize, count: usize, at: usize) -> Result<Rule
     if file.len() - at < 2 {
         return Err(Fault::FileEnds);
     }
-    if Mark::try_from(word(file, at))? == Mark::Book {
+    if !Mark::try_from(word(file, at))?.is_rule() {
         return Err(Fault::BookRecord);
     }
     if 1024 <= count {
@@ -102,13 +160,33 @@ fn check_head(file: &[u8]) -> Result<usize, Fault>
     Ok(jobs)
 }
 
-// The records of rules, from byte 4 to the end of the file: their number, or the first refusal.
-#[tactic(auto, using(crate::proofs::Rules::scans))]
-fn scan(file: &[u8], jobs: usize) -> Result<Counts, Refusal>
-    requires { 4 ≤ length file.now }
-    ensures { read_of result ≡ counted jobs (rules_from 1025 jobs file.now 0 4) }
+// The records of latest times, from byte 4 on: the byte behind them, or the first refusal.
+#[tactic(auto, using(crate::proofs::Latest::checks))]
+fn scan_latest(file: &[u8], jobs: usize) -> Result<usize, Refusal>
+    requires file_len_bound { 4 ≤ length file.now }
+    requires jobs_bound { jobs ≤ most_jobs }
+    ensures said { byte_of result ≡ ended 4 (latest_from (most_jobs + 1) jobs file.now [] 4) }
+    ensures inside { IfOk result (λ at. at ≤ length file.now) }
 {
     let mut at = 4;
+    let mut seen = [false; 256];
+    while is_latest(file, at) {
+        match read_latest(file, jobs, &seen, at) {
+            Ok(latest) => seen[usize::from(latest.job)] = true,
+            Err(fault) => return Err(Refusal { fault, place: at }),
+        }
+        at += 8;
+    }
+    Ok(at)
+}
+
+// The records of rules, from a byte to the end of the file: their number, or the first refusal.
+#[tactic(auto, using(crate::proofs::Rules::scans))]
+fn scan(file: &[u8], jobs: usize, begin: usize) -> Result<Counts, Refusal>
+    requires { begin ≤ length file.now }
+    ensures { read_of result ≡ counted jobs (rules_from (most_rules + 1) jobs file.now 0 begin) }
+{
+    let mut at = begin;
     let mut rules = 0;
     // No range gives these bytes: each record begins where the one before it ends, and they differ in length.
     while at < file.len() {
@@ -122,23 +200,35 @@ fn scan(file: &[u8], jobs: usize) -> Result<Counts, Refusal>
     Ok(Counts { jobs, rules })
 }
 
-// A whole file, checked: the job count and the rule count, or the first refusal.
+// A whole file, checked, or its first refusal.
 #[tactic(auto, using(crate::proofs::Walks::files))]
+fn check_file(file: &[u8]) -> Result<Checked, Refusal>
+    ensures said { checked_reply result ≡ file_reply file.now }
+    ensures begin { IfOk result (λ checked. checked.begin ≡ rules_begin file.now) }
+{
+    let jobs = check_head(file)?;
+    let begin = scan_latest(file, jobs)?;
+    let counts = scan(file, jobs, begin)?;
+    Ok(Checked { counts, begin })
+}
+
+// The job count and the rule count of a file, or its first refusal.
 pub fn examine(file: &[u8]) -> Result<Counts, Refusal>
     ensures { read_of result ≡ file_reply file.now }
 {
-    let jobs = check_head(file)?;
-    scan(file, jobs)
+    let checked = check_file(file)?;
+    Ok(checked.counts)
 }
 
-// The byte where the record of a rule begins.
+// The byte where the record of a rule begins, the first one's byte given.
 #[tactic(auto, using(crate::proofs::Walks::walks))]
-fn begin(file: &[u8], number: usize) -> usize
+fn begin(file: &[u8], first: usize, number: usize) -> usize
     requires listed { Listed file.now }
+    requires first_is { first ≡ rules_begin file.now }
     requires number_in_bounds { number < length (entries file.now) }
     ensures { Begins file.now number result }
 {
-    let mut at = 4;
+    let mut at = first;
     for _ in 0..number {
         at = next_record(file, at);
     }
@@ -151,37 +241,69 @@ pub fn stretch_of(file: &[u8], number: usize) -> Range<usize>
     ensures place { result ≡ place_of file.now number }
     ensures inside { (result.start ≤ result.end) × (result.end ≤ length file.now) }
 {
-    match examine(file) {
-        Ok(counts) if number < counts.rules => {
-            let at = begin(file, number);
+    match check_file(file) {
+        Ok(checked) if number < checked.counts.rules => {
+            let at = begin(file, checked.begin, number);
             at..at + size_at(file, at)
         }
         _ => 0..0,
     }
 }
 
-// The record of a rule, handed back as that stretch of the lent file.
+// The record of a rule, handed back as that stretch of the lent file: its bytes, and where they are. An address is a block and a byte in it.
 #[tactic(auto, using(crate::proofs::Walks::record_place))]
 pub fn record(file: &[u8], number: usize) -> &[u8]
-    ensures { result.now ≡ record_of file.now number }
+    ensures bytes { result.now ≡ record_of file.now number }
+    ensures block { result.ref_ptr.0 ≡ file.entry.ref_ptr.0 }
+    ensures byte { result.ref_ptr.1 ≡ file.entry.ref_ptr.1 + (place_of file.now number).start }
 {
     &file[stretch_of(file, number)]
 }
 
-// The reader: the job count and the rule count, with the rules in the lent table; or the refusal, with nothing written.
-#[tactic(auto, using(crate::proofs::Walks::readings, crate::proofs::Storing::stored_none))]
-pub fn read_book(file: &[u8], rules: &mut [Rule]) -> Result<Counts, Refusal>
-    ensures said { read_of result ≡ read_reply file.now (length rules.old) }
-    ensures left { rules.new ≡ read_into file.now (length rules.old) (λ (q : Rule). q) rules.old }
+// The latest time of each job, written into a list with a place for each.
+fn write_latest(file: &[u8], latest: &mut [i32])
+    requires listed { Listed file.now }
+    requires latest_len { length latest.old ≡ word file.now 2 }
+    ensures { latest.new ≡ latest_of_file file.now }
 {
-    let counts = examine(file)?;
-    if rules.len() < counts.rules {
-        return Err(Fault::Length.into());
-    }
+    latest.fill(0);
     let mut at = 4;
-    for rule in &mut rules[..counts.rules] {
+    while is_latest(file, at) {
+        let time = latest_at(file, at);
+        latest[usize::from(time.job)] = time.minute;
+        at += 8;
+    }
+}
+
+// The rules, from the byte where the first one's record begins, written into a table with a place for each.
+#[tactic(auto, using(crate::proofs::Storing::stored_none))]
+fn write_rules(file: &[u8], begin: usize, rules: &mut [Rule])
+    requires listed { Listed file.now }
+    requires begin_is { begin ≡ rules_begin file.now }
+    requires rules_len { length rules.old ≡ length (entries file.now) }
+    ensures { rules.new ≡ rules_of_file file.now }
+{
+    let mut at = begin;
+    for rule in rules.iter_mut() {
         *rule = rule_at(file, at);
         at = next_record(file, at);
     }
+}
+
+// The reader: the job count and the rule count, with the rules in the lent table and the latest times in the lent list; or the refusal,
+// with nothing written.
+#[tactic(auto, using(crate::proofs::Walks::readings))]
+pub fn read_book(file: &[u8], rules: &mut [Rule], latest: &mut [i32]) -> Result<Counts, Refusal>
+    ensures said { read_of result ≡ read_reply file.now (length rules.old) (length latest.old) }
+    ensures rules_after { rules.new ≡ read_rules file.now rules.old latest.old }
+    ensures latest_after { latest.new ≡ read_latest file.now rules.old latest.old }
+{
+    let checked = check_file(file)?;
+    let counts = checked.counts;
+    if rules.len() < counts.rules || latest.len() < counts.jobs {
+        return Err(Fault::Length.into());
+    }
+    write_latest(file, &mut latest[..counts.jobs]);
+    write_rules(file, checked.begin, &mut rules[..counts.rules]);
     Ok(counts)
 }

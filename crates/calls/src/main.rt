@@ -1,65 +1,86 @@
-// The examples and the limits of the scope, at run time through the planner's public calls, one line a case.
+// The examples and the limits, at run time through the planner's public calls, one line a case.
 
 #![tactic(auto)]
 
 mod lending;
 mod said;
 
-use lending::{lent, read_book};
-use planner::{Rule, Tally, first_violated, is_tight, solve, step};
-use said::{Book, Kept, Kind, Numbers, Run, Said, Stepped, Tight, Times, Told};
+use lending::{first, lent, read_book};
+use planner::{Counts, Rule, Tally, first_violated, initial, is_tight, solve, step};
+use said::{Book, Fresh, Kept, Kind, Minutes, Numbers, Run, Said, Stepped, Table, Tight, Told};
 use std::io;
 
 fn rule(x: u16, y: u16, z: u16, k: i32) -> Rule {
     Rule { x, y, z, k }
 }
 
-// A book: its classes, what the bench run says and leaves, and the kept and the tight test on what it leaves.
-fn bench(rt: &impl Print, n: usize, rules: &[Rule], times: &mut [i32]) -> io::Result<()> {
+// A book: its latest times and its classes, what the bench run says and leaves, and the kept and the tight test on what it leaves.
+fn bench(
+    rt: &impl Print,
+    n: usize,
+    rules: &[Rule],
+    latest: &[i32],
+    times: &mut [i32],
+) -> io::Result<()> {
     let book = Book(n, rules.len());
-    print!(rt; " {book}")?;
+    let last = Minutes("LATEST", latest);
+    print!(rt; " {book} {last}")?;
     for r in rules {
         let kind = Kind(r.class());
         print!(rt; " {kind}")?;
     }
-    let run = Said(solve(n, rules, times).map(|solved| Run(solved)));
-    let left = Times(times);
-    let kept = Said(first_violated(n, rules, times).map(|found| Kept(found)));
+    let run = Said(solve(n, rules, latest, times).map(|solved| Run(solved)));
+    let left = Minutes("TIMES", times);
+    let kept = Said(first_violated(n, rules, latest, times).map(|found| Kept(found)));
     print!(rt; " {run} {left} {kept}")?;
     for number in 0..rules.len() {
-        let tight = Said(is_tight(n, rules, times, number).map(|tight| Tight(tight)));
+        let tight = Said(is_tight(n, rules, latest, times, number).map(|tight| Tight(tight)));
         print!(rt; " {tight}")?;
     }
     Ok(())
 }
 
-// Three rounds of hand steps on a fresh board: on rule 0 upward, the last on no rule.
-fn hand(rt: &impl Print, n: usize, rules: &[Rule], times: &mut [i32]) -> io::Result<()> {
+// A fresh board, and three rounds of hand steps on it: on rule 0 upward, the last on no rule.
+fn hand(
+    rt: &impl Print,
+    n: usize,
+    rules: &[Rule],
+    latest: &[i32],
+    times: &mut [i32],
+) -> io::Result<()> {
+    let fresh = Said(initial(n, latest, times).map(|_| Fresh));
+    print!(rt; " {fresh}")?;
     let mut tally = Tally {
         steps: 0,
         minutes: 0,
     };
     for _ in 0..3 {
         for number in 0..=rules.len() {
-            let stepped = Said(step(n, rules, times, &mut tally, number).map(|_| Stepped));
+            let stepped = Said(step(n, rules, latest, times, &mut tally, number).map(|_| Stepped));
             print!(rt; " {stepped}")?;
         }
     }
-    let left = Times(times);
+    let left = Minutes("TIMES", times);
     let told = Told(tally);
     print!(rt; " {left} {told}")
 }
 
 // A book: a line with the bench run, and one with hand steps.
-fn both(rt: &impl Print, name: &str, n: usize, rules: &[Rule]) -> io::Result<()> {
-    let mut times = [0; 256];
-    let mut board = [0; 256];
-    if n <= 256 {
+fn both(
+    rt: &impl Print,
+    name: &str,
+    n: usize,
+    rules: &[Rule],
+    latest: &[i32; 257],
+) -> io::Result<()> {
+    let mut times = [7; 257];
+    let mut board = [7; 257];
+    if n <= 257 {
         print!(rt; "{name}")?;
-        bench(rt, n, rules, &mut times[..n])?;
+        bench(rt, n, rules, &latest[..n], &mut times[..n])?;
         println!(rt)?;
         print!(rt; "{name}")?;
-        hand(rt, n, rules, &mut board[..n])?;
+        hand(rt, n, rules, &latest[..n], &mut board[..n])?;
         println!(rt)?;
     }
     Ok(())
@@ -67,8 +88,9 @@ fn both(rt: &impl Print, name: &str, n: usize, rules: &[Rule]) -> io::Result<()>
 
 fn example(rt: &impl Print, name: &str, file: &[u8]) -> io::Result<()> {
     let mut table = [rule(0, 0, 0, 0); 1025];
-    match read_book(file, &mut table, 1025) {
-        Ok(counts) => both(rt, name, counts.jobs, lent(&table, counts.rules)),
+    let mut latest = [7; 257];
+    match read_book(file, &mut table, 1025, &mut latest, 257) {
+        Ok(counts) => both(rt, name, counts.jobs, lent(&table, counts.rules), &latest),
         Err(refusal) => {
             let refused = Said::<Stepped>(Err(refusal));
             println!(rt; "{name} {refused}")
@@ -76,60 +98,91 @@ fn example(rt: &impl Print, name: &str, file: &[u8]) -> io::Result<()> {
     }
 }
 
-// The reader, with `places` places in the table.
-fn reading(rt: &impl Print, name: &str, file: &[u8], places: usize) -> io::Result<()> {
-    let mut table = [rule(0, 0, 0, 0); 1025];
-    let read = Said(read_book(file, &mut table, places).map(|c| Book(c.jobs, c.rules)));
-    println!(rt; "{name} PLACES {places} {read}")
+// The reader, with `places` places in the table and `minutes` in the list, and what it leaves in them.
+fn reading(
+    rt: &impl Print,
+    name: &str,
+    file: &[u8],
+    places: usize,
+    minutes: usize,
+) -> io::Result<()> {
+    let mut table = [rule(7, 7, 7, 7); 1025];
+    let mut latest = [7; 257];
+    let read = read_book(file, &mut table, places, &mut latest, minutes);
+    let said = Said(read.map(|c| Book(c.jobs, c.rules)));
+    let rules = Table(lent(&table, places));
+    let last = Minutes("LATEST", first(&latest, minutes));
+    println!(rt; "{name} PLACES {places} {minutes} {said} {rules} {last}")
+}
+
+// A file cut off at each length, with a place for a rule and three for latest times.
+fn cut_off(rt: &impl Print, file: &[u8]) -> io::Result<()> {
+    for length in 0..=file.len() {
+        print!(rt; "cut off at {length}")?;
+        reading(rt, "", &file[..length], 1, 3)?;
+    }
+    Ok(())
 }
 
 // Example L: a hand step that leaves its rule broken.
 fn step_of_l(rt: &impl Print) -> io::Result<()> {
     let rules = [rule(0, 1, 0, -1), rule(0, 0, 1, -3)];
+    let latest = [0, 0];
     let mut times = [0, -3];
     let mut tally = Tally {
         steps: 1,
         minutes: 3,
     };
-    let stepped = Said(step(2, &rules, &mut times, &mut tally, 0).map(|_| Stepped));
-    let left = Times(&times);
+    let stepped = Said(step(2, &rules, &latest, &mut times, &mut tally, 0).map(|_| Stepped));
+    let left = Minutes("TIMES", &times);
     let told = Told(tally);
-    let kept = Said(first_violated(2, &rules, &times).map(|found| Kept(found)));
+    let kept = Said(first_violated(2, &rules, &latest, &times).map(|found| Kept(found)));
     println!(rt; "L {stepped} {left} {told} {kept}")
 }
 
-// Each call that takes a table: the bench run, the tests on what it leaves, and a hand step on a fresh board.
+// Each call that takes latest times: the bench run, the tests on what it leaves, the fresh board, and a hand step on that.
 fn each_call(
     rt: &impl Print,
     n: usize,
     rules: &[Rule],
+    latest: &[i32],
     times: &mut [i32],
     board: &mut [i32],
 ) -> io::Result<()> {
-    let run = Said(solve(n, rules, times).map(|solved| Run(solved)));
-    let kept = Said(first_violated(n, rules, times).map(|found| Kept(found)));
-    let tight = Said(is_tight(n, rules, times, 0).map(|tight| Tight(tight)));
+    let run = Said(solve(n, rules, latest, times).map(|solved| Run(solved)));
+    let kept = Said(first_violated(n, rules, latest, times).map(|found| Kept(found)));
+    let tight = Said(is_tight(n, rules, latest, times, 0).map(|tight| Tight(tight)));
+    let fresh = Said(initial(n, latest, board).map(|_| Fresh));
     let mut tally = Tally {
         steps: 0,
         minutes: 0,
     };
-    let stepped = Said(step(n, rules, board, &mut tally, 0).map(|_| Stepped));
+    let stepped = Said(step(n, rules, latest, board, &mut tally, 0).map(|_| Stepped));
     let told = Told(tally);
-    print!(rt; " {run} {kept} {tight} {stepped} {told}")
+    print!(rt; " {run} {kept} {tight} {fresh} {stepped} {told}")
 }
 
-// A table of `count` times one rule, with buffers of a length.
-fn limit(rt: &impl Print, n: usize, r: Rule, count: usize, length: usize) -> io::Result<()> {
+// A table of `count` times one rule, with one latest time for all jobs, and with list and buffers of a length.
+fn limit(
+    rt: &impl Print,
+    n: usize,
+    r: Rule,
+    count: usize,
+    minute: i32,
+    length: usize,
+) -> io::Result<()> {
     let numbers = Numbers(r);
-    print!(rt; "LIMIT {n} {numbers} {count} {length}")?;
+    print!(rt; "LIMIT {n} {numbers} {count} {minute} {length}")?;
     let table = [r; 1025];
-    let mut times = [0; 257];
-    let mut board = [0; 257];
+    let latest = [minute; 257];
+    let mut times = [7; 257];
+    let mut board = [7; 257];
     if length <= 257 {
         each_call(
             rt,
             n,
             lent(&table, count),
+            &latest[..length],
             &mut times[..length],
             &mut board[..length],
         )?;
@@ -137,16 +190,88 @@ fn limit(rt: &impl Print, n: usize, r: Rule, count: usize, length: usize) -> io:
     println!(rt)
 }
 
+// One rule with a list of latest times, and with buffers of a length; what the calls leave in the buffers.
+fn listed(rt: &impl Print, n: usize, r: Rule, latest: &[i32], length: usize) -> io::Result<()> {
+    let numbers = Numbers(r);
+    let last = Minutes("LATEST", latest);
+    print!(rt; "LIST {n} {numbers} {length} {last}")?;
+    let mut times = [7; 4];
+    let mut board = [7; 4];
+    if length <= 4 {
+        let rules = [r];
+        each_call(
+            rt,
+            n,
+            &rules,
+            latest,
+            &mut times[..length],
+            &mut board[..length],
+        )?;
+        let left = Minutes("TIMES", &times[..length]);
+        let stood = Minutes("BOARD", &board[..length]);
+        print!(rt; " {left} {stood}")?;
+    }
+    println!(rt)
+}
+
+// The reader, the latest times, and each call on the book that was read.
+fn read_and_called(rt: &impl Print, name: &str, file: &[u8]) -> io::Result<()> {
+    let mut table = [rule(0, 0, 0, 0); 1025];
+    let mut latest = [7; 257];
+    let mut times = [7; 257];
+    let mut board = [7; 257];
+    let read = read_book(file, &mut table, 1025, &mut latest, 257);
+    let said = Said(read.map(|c| Book(c.jobs, c.rules)));
+    let last = Minutes("LATEST", &latest);
+    print!(rt; "{name} {said} {last}")?;
+    match read {
+        Ok(Counts { jobs, rules }) if jobs <= 257 => each_call(
+            rt,
+            jobs,
+            lent(&table, rules),
+            &latest[..jobs],
+            &mut times[..jobs],
+            &mut board[..jobs],
+        )?,
+        _ => {}
+    }
+    println!(rt)
+}
+
+// A book of 256 jobs, each with a latest time of its own.
+fn most_latest(rt: &impl Print) -> io::Result<()> {
+    let mut file = [0; 2064];
+    file[..4].copy_from_slice(b"BK\x00\x01");
+    for job in 0..256 {
+        let at = 4 + job * 8;
+        let minute = -79 * job as i32;
+        file[at..at + 2].copy_from_slice(b"CE");
+        file[at + 2..at + 4].copy_from_slice(&(job as u16).to_le_bytes());
+        file[at + 4..at + 8].copy_from_slice(&minute.to_le_bytes());
+    }
+    file[2052..].copy_from_slice(b"RU\x00\x00\x01\x00\xff\x00\xff\xff\xff\xff");
+    read_and_called(rt, "MOST", &file)
+}
+
 // A hand step on example D's rule, or on no rule, from any board and tally.
-fn held(rt: &impl Print, time: i32, steps: u64, minutes: u64, number: usize) -> io::Result<()> {
+fn held(
+    rt: &impl Print,
+    latest: &[i32],
+    times: &mut [i32],
+    steps: u64,
+    minutes: u64,
+    number: usize,
+) -> io::Result<()> {
     let rules = [rule(0, 0, 0, -1)];
-    let mut times = [time];
     let mut tally = Tally { steps, minutes };
-    let board = Times(&times);
+    let last = Minutes("LATEST", latest);
+    let board = Minutes("TIMES", times);
     let told = Told(tally);
-    print!(rt; "HELD {board} {told} {number}")?;
-    let stepped = Said(step(1, &rules, &mut times, &mut tally, number).map(|_| Stepped));
-    let left = Times(&times);
+    print!(rt; "HELD {last} {board} {told} {number}")?;
+    let stepped = Said(step(times.len(), &rules, latest, times, &mut tally, number).map(
+        |_| Stepped,
+    ));
+    let left = Minutes("TIMES", times);
     let told = Told(tally);
     println!(rt; " {stepped} {left} {told}")
 }
@@ -164,31 +289,85 @@ fn main(rt: HostRuntime) -> io::Result<()> {
         ("I", example_books::I),
         ("J", example_books::J),
         ("L", example_books::L),
+        ("P", example_books::P),
+        ("Q", example_books::Q),
+        ("R", example_books::R),
     ] {
         example(&rt, name, file)?;
     }
     step_of_l(&rt)?;
-    reading(&rt, "B", example_books::B, 3)?;
-    reading(&rt, "B", example_books::B, 4)?;
-    limit(&rt, 0, rule(0, 0, 0, 0), 0, 0)?;
-    limit(&rt, 1, rule(0, 0, 0, 0), 0, 1)?;
-    limit(&rt, 256, rule(0, 0, 0, 0), 0, 256)?;
-    limit(&rt, 257, rule(0, 0, 0, 0), 0, 257)?;
-    limit(&rt, 1, rule(0, 0, 0, 0), 1024, 1)?;
-    limit(&rt, 1, rule(0, 0, 0, 0), 1025, 1)?;
-    limit(&rt, 2, rule(0, 0, 1, 20160), 1, 2)?;
-    limit(&rt, 2, rule(0, 0, 1, 20161), 1, 2)?;
-    limit(&rt, 2, rule(0, 0, 1, -20160), 1, 2)?;
-    limit(&rt, 2, rule(0, 0, 1, -20161), 1, 2)?;
-    limit(&rt, 256, rule(0, 0, 255, -1), 1, 256)?;
-    limit(&rt, 256, rule(0, 0, 256, -1), 1, 256)?;
-    limit(&rt, 2, rule(0, 0, 1, -1), 1, 1)?;
-    limit(&rt, 2, rule(0, 0, 1, -1), 1, 3)?;
-    held(&rt, 1, 0, 0, 0)?;
-    held(&rt, -3, 3, 3, 0)?;
-    held(&rt, -1, 0, 0, 0)?;
-    held(&rt, -1, 2, 1, 0)?;
-    held(&rt, -1, 1, 1, 1)?;
-    held(&rt, -2, 2, 2, 0)?;
-    held(&rt, -1, 1, 1, 0)
+    for (places, minutes) in [(3, 4), (4, 3), (4, 4), (5, 5)] {
+        reading(&rt, "B", example_books::B, places, minutes)?;
+    }
+    for (places, minutes) in [(0, 2), (1, 1), (1, 2), (2, 3)] {
+        reading(&rt, "P", example_books::P, places, minutes)?;
+    }
+    for (name, file) in example_books::LATEST_LIMITS {
+        reading(&rt, name, file, 1, 3)?;
+    }
+    cut_off(&rt, example_books::EARLIEST)?;
+    most_latest(&rt)?;
+    let idle = rule(0, 0, 0, 0);
+    limit(&rt, 0, idle, 0, 0, 0)?;
+    limit(&rt, 1, idle, 0, 0, 1)?;
+    limit(&rt, 256, idle, 0, 0, 256)?;
+    limit(&rt, 257, idle, 0, 0, 257)?;
+    limit(&rt, 257, idle, 0, 1, 257)?;
+    limit(&rt, 1, idle, 1024, 0, 1)?;
+    limit(&rt, 1, idle, 1025, 0, 1)?;
+    limit(&rt, 1, idle, 1025, 1, 1)?;
+    for offset in [20160, 20161, -20160, -20161] {
+        limit(&rt, 2, rule(0, 0, 1, offset), 1, 0, 2)?;
+    }
+    for job in [255, 256] {
+        limit(&rt, 256, rule(0, 0, job, -1), 1, 0, 256)?;
+    }
+    for minute in [-20160, -20161, 0, 1] {
+        limit(&rt, 256, rule(0, 0, 255, -20160), 1024, minute, 256)?;
+    }
+    let down = rule(0, 0, 1, -1);
+    for length in 1..=3 {
+        listed(&rt, 2, down, &[0, 0], length)?;
+        listed(&rt, 2, down, &[0, 1], length)?;
+    }
+    listed(&rt, 2, down, &[0], 2)?;
+    listed(&rt, 2, down, &[0, 0, 0], 2)?;
+    listed(&rt, 2, down, &[1], 2)?;
+    listed(&rt, 2, down, &[1, 1, 1], 2)?;
+    listed(&rt, 2, down, &[-5, -3], 2)?;
+    listed(&rt, 2, down, &[0, -20160], 2)?;
+    listed(&rt, 2, down, &[0, -20161], 2)?;
+    listed(&rt, 2, down, &[-20161, 1], 2)?;
+    listed(&rt, 2, down, &[-20160, 0], 2)?;
+    listed(&rt, 2, rule(0, 0, 1, -20161), &[0, 1], 2)?;
+    listed(&rt, 2, rule(0, 0, 1, -20161), &[1], 2)?;
+    listed(&rt, 2, rule(0, 0, 2, -1), &[1, 1], 2)?;
+    listed(&rt, 0, down, &[1], 2)?;
+    listed(&rt, 257, down, &[1, 1], 2)?;
+    for (time, steps, minutes, number) in [
+        (1, 0, 0, 0),
+        (-3, 3, 3, 0),
+        (-1, 0, 0, 0),
+        (-1, 2, 1, 0),
+        (-1, 1, 1, 1),
+        (-2, 2, 2, 0),
+        (-1, 1, 1, 0),
+    ] {
+        held(&rt, &[0], &mut [time], steps, minutes, number)?;
+    }
+    for (time, steps, minutes, number) in [
+        (-4, 0, 0, 0),
+        (-8, 3, 3, 0),
+        (-6, 1, 0, 0),
+        (-6, 1, 6, 0),
+        (-6, 1, 1, 1),
+        (-7, 2, 2, 0),
+        (-6, 1, 1, 0),
+    ] {
+        held(&rt, &[-5], &mut [time], steps, minutes, number)?;
+    }
+    for (time, late) in [(0, -4), (0, -5), (-6, -5), (-7, -5), (-8, -5)] {
+        held(&rt, &[0, -5], &mut [time, late], 0, -time as u64, 0)?;
+    }
+    Ok(())
 }

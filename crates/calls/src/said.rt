@@ -21,6 +21,15 @@ impl<T: Display> Display for Said<T> {
 }
 
 #[derive(Drop)]
+pub struct Fresh;
+
+impl Display for Fresh {
+    fn fmt<W: fmt::Write>(&self, f: &mut fmt::Formatter<W>) -> fmt::Result {
+        write!(f, "FRESH")
+    }
+}
+
+#[derive(Drop)]
 pub struct Stepped;
 
 impl Display for Stepped {
@@ -80,14 +89,15 @@ impl Display for Kind {
     }
 }
 
+// Minutes of the jobs, behind a word that says which.
 #[derive(Drop)]
-pub struct Times<'a>(pub &'a [i32]);
+pub struct Minutes<'a>(pub &'a str, pub &'a [i32]);
 
-impl Display for Times<'_> {
+impl Display for Minutes<'_> {
     fn fmt<W: fmt::Write>(&self, f: &mut fmt::Formatter<W>) -> fmt::Result {
-        write!(f, "TIMES")?;
-        for time in self.0 {
-            write!(f, " {time}")?;
+        write!(f, "{}", self.0)?;
+        for minute in self.1 {
+            write!(f, " {minute}")?;
         }
         Ok(())
     }
@@ -120,5 +130,19 @@ impl Display for Numbers {
     fn fmt<W: fmt::Write>(&self, f: &mut fmt::Formatter<W>) -> fmt::Result {
         let Rule { x, y, z, k } = self.0;
         write!(f, "{x} {y} {z} {k}")
+    }
+}
+
+#[derive(Drop)]
+pub struct Table<'a>(pub &'a [Rule]);
+
+impl Display for Table<'_> {
+    fn fmt<W: fmt::Write>(&self, f: &mut fmt::Formatter<W>) -> fmt::Result {
+        write!(f, "TABLE")?;
+        for rule in self.0 {
+            let numbers = Numbers(*rule);
+            write!(f, " {numbers}")?;
+        }
+        Ok(())
     }
 }

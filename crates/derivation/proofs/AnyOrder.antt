@@ -5,66 +5,67 @@ use mathlib.Core.Bool.{Bool, true, false, cond}
 use mathlib.Core.List.{List, [], ◌∷◌}
 use Prim.Native.Nat.{ℕ, suc, ◌+◌, ◌<◌}
 use native.Mathlib.Omega.{arith}
-use lib.ListN.{length, replicate, length-set}
+use lib.ListN.{length, length-set}
 use lib.Seq.{get_or-set_same, get_or-set_other}
 use lib.IntN.{ℤ, pos}
-use lib.Signed.{◌≤ℤ◌, ◌<ℤ◌}
+use lib.Signed.{◌<ℤ◌}
 use Rattle.maxatom.specs.Rule.{time_at, left_side, satisfied}
-use Rattle.maxatom.specs.Book.{Each, Accepted, InBook, AllSatisfied, Model, Plan, NotAfterZero, Under, floor}
+use Rattle.maxatom.specs.Book.{Book, Each, AllSatisfied, Model, Plan, Under, floor}
+use Rattle.maxatom.specs.Accepted.{InBook, Accepted}
 use Rattle.maxatom.specs.declared.Rule.{Rule}
 use Rattle.maxatom.specs.Clauses.{clause_of}
 use Rattle.maxatom.proofs.Choose.{clash}
-use Rattle.maxatom.proofs.Integers.{le_false, le_make, by_test_not}
-use Rattle.maxatom.proofs.Lists.{each_map, each_time, time_each, each_place}
-use Rattle.maxatom.proofs.Clauses.{Below}
-use Rattle.maxatom.proofs.Derivations.{start, step, longest, longest_high, stays_high, full, lemma_7}
-use Rattle.maxatom.proofs.Rules.{left_same, in_clauses, keeps_all, kept_all, room_zero, zero_time}
+use Rattle.maxatom.proofs.Integers.{le_false, by_test_not}
+use Rattle.maxatom.proofs.Lists.{each_map, each_place}
+use Rattle.maxatom.proofs.Derivations.{start, step, longest, longest_high, stays_high, full, lemma_7, under_latest}
+use Rattle.maxatom.proofs.Rules.{left_same, in_clauses, keeps_all, kept_all, setting}
 use Rattle.maxatom.proofs.Plans.{plan_unique}
 use Rattle.derivation.specs.Refusals.{Reply, refused, accepts}
 use Rattle.derivation.specs.Step.{State, initial, no_rule, rule_at, below_floor, step_on, Called, step_call}
 use Rattle.derivation.specs.Play.{Entry, play, end_state, stepped, count_steps, took_off, sum_minutes}
 use Rattle.derivation.specs.Demands.{Due, Lowered, Unchanged, WithPlan, WithNone, Demand3}
-use Rattle.derivation.proofs.Reached.{Reached, set_of, high_test, test_high, floor_low, size_is, not_after, View, no_rule_lem, too_low, kept, steps, view}
+use Rattle.derivation.proofs.Checks.{accepted_iff}
+use Rattle.derivation.proofs.Reached.{Reached, high_test, test_high, floor_low, size_is, View, no_rule_lem, too_low, kept, steps, view}
 
 pub each_at : (P : Rule → Type 0) (rules : List Rule) (number : ℕ) → number < length rules → Each P rules → P (rule_at rules number)
 each_at P rules number h e = each_place P rules number no_rule h e
 
 -- what is shown of one call of the list
-pub record Shown (jobs : ℕ) (rules : List Rule) (e : Entry) : Type 0 where
-  pub exactly : (stepped e ≡ true) ↔ Due rules e
-  pub lowered : stepped e ≡ true → Lowered (rule_at rules e.asked) e.before.times e.after.times
+pub record Shown (b : Book) (e : Entry) : Type 0 where
+  pub exactly : (stepped e ≡ true) ↔ Due b e
+  pub lowered : stepped e ≡ true → Lowered (rule_at b.rules e.asked) e.before.times e.after.times
   pub others : stepped e ≡ false → Unchanged e
   pub steps_on : e.after.tally.steps ≡ e.before.tally.steps + cond (stepped e) 1 0
-  pub minutes_on : e.after.tally.minutes ≡ e.before.tally.minutes + cond (stepped e) (took_off rules e) 0
-  pub reached : Reached jobs rules e.after
+  pub minutes_on : e.after.tally.minutes ≡ e.before.tally.minutes + cond (stepped e) (took_off b.rules e) 0
+  pub reached : Reached b e.after
 
-module _ {jobs : ℕ} {rules : List Rule} (a : Accepted jobs rules) where
+module _ {b : Book} (a : Accepted b) where
   -- a step from a reached state
-  module _ {state : State} (d : Reached jobs rules state) (number : ℕ) (h : number < length rules)
-      (above : below_floor (floor rules) state.times ≡ false) (violated : satisfied (rule_at rules number) state.times ≡ false) where
-    left_lower : left_side (rule_at rules number) state.times <ℤ time_at state.times (rule_at rules number).z
+  module _ {state : State} (d : Reached b state) (number : ℕ) (h : number < length b.rules)
+      (above : below_floor (floor b) state.times ≡ false) (violated : satisfied (rule_at b.rules number) state.times ≡ false) where
+    left_lower : left_side (rule_at b.rules number) state.times <ℤ time_at state.times (rule_at b.rules number).z
     unfolding satisfied
     left_lower = le_false _ _ violated
 
-    pub reached_step : Reached jobs rules (step_on (rule_at rules number) state)
+    pub reached_step : Reached b (step_on (rule_at b.rules number) state)
     unfolding step_on
     reached_step =
-        let r = rule_at rules number in
+        let r = rule_at b.rules number in
         rw (left_same r state.times) at
         (step (clause_of r) d
         (record {
-          among = in_clauses rules number no_rule h;
-          high = test_high (floor rules) state.times (floor_low a) above;
+          among = in_clauses b.rules number no_rule h;
+          high = test_high (floor b) state.times (floor_low a) above;
           violated = rw (left_same r state.times) left_lower;
         }))
 
-    pub allowed : time_at (step_on (rule_at rules number) state).times (rule_at rules number).z ≡ left_side (rule_at rules number) state.times
+    pub allowed : time_at (step_on (rule_at b.rules number) state).times (rule_at b.rules number).z ≡ left_side (rule_at b.rules number) state.times
     unfolding step_on
     allowed =
         get_or-set_same state.times _ _ (pos 0)
-        (subst (λ (n : ℕ). (rule_at rules number).z < n) (sym (size_is a d)) (each_at (InBook jobs) rules number h a.rules_in).third)
+        (subst (λ (n : ℕ). (rule_at b.rules number).z < n) (sym (size_is a d)) (each_at (InBook b.jobs) b.rules number h a.rules_in).third)
 
-    lowers : Lowered (rule_at rules number) state.times (step_on (rule_at rules number) state).times
+    lowers : Lowered (rule_at b.rules number) state.times (step_on (rule_at b.rules number) state).times
     unfolding step_on
     lowers =
         record {
@@ -75,10 +76,10 @@ module _ {jobs : ℕ} {rules : List Rule} (a : Accepted jobs rules) where
         }
 
   -- a refused call
-  stays : (state : State) (asked number : ℕ) → Reached jobs rules state →
-      (Due rules (record { asked = asked; said = refused number 0; before = state; after = state }) → ⊥) →
+  stays : (state : State) (asked number : ℕ) → Reached b state →
+      (Due b (record { asked = asked; said = refused number 0; before = state; after = state }) → ⊥) →
       (◌≡◌ {A = Reply (Unit {0})} (refused number 0) (refused 24 0)) ⊎ ((◌≡◌ {A = Reply (Unit {0})} (refused number 0) (refused 25 0)) ⊎ (◌≡◌ {A = Reply (Unit {0})} (refused number 0) (refused 26 0))) →
-      Shown jobs rules (record { asked = asked; said = refused number 0; before = state; after = state })
+      Shown b (record { asked = asked; said = refused number 0; before = state; after = state })
   unfolding stepped accepts
   stays state asked number d not-due which =
       record {
@@ -90,8 +91,8 @@ module _ {jobs : ℕ} {rules : List Rule} (a : Accepted jobs rules) where
         reached = d;
       }
 
-  entry : (state : State) (number : ℕ) → Reached jobs rules state → (called : Called) → View a state number called →
-      Shown jobs rules (record { asked = number; said = called.said; before = state; after = called.after })
+  entry : (state : State) (number : ℕ) → Reached b state → (called : Called) → View a state number called →
+      Shown b (record { asked = number; said = called.said; before = state; after = called.after })
   unfolding stepped accepts took_off step_on
   entry state number d called (no_rule_lem h) = stays state number 24 d (λ due. omega (arith, due.of_book)) (inl refl)
   entry state number d called (too_low h low) = stays state number 25 d (λ due. clash low due.above) (inr (inl refl))
@@ -107,17 +108,17 @@ module _ {jobs : ℕ} {rules : List Rule} (a : Accepted jobs rules) where
       }
 
 -- what is shown of a list of calls
-pub record Played (jobs : ℕ) (rules : List Rule) (state : State) (calls : List ℕ) : Type 0 where
-  pub shown : Each (Shown jobs rules) (play jobs rules state calls)
-  pub counts : (end_state state (play jobs rules state calls)).tally.steps ≡ state.tally.steps + count_steps (play jobs rules state calls)
-  pub sums : (end_state state (play jobs rules state calls)).tally.minutes ≡ state.tally.minutes + sum_minutes rules (play jobs rules state calls)
-  pub reached : Reached jobs rules (end_state state (play jobs rules state calls))
+pub record Played (b : Book) (state : State) (calls : List ℕ) : Type 0 where
+  pub shown : Each (Shown b) (play b state calls)
+  pub counts : (end_state state (play b state calls)).tally.steps ≡ state.tally.steps + count_steps (play b state calls)
+  pub sums : (end_state state (play b state calls)).tally.minutes ≡ state.tally.minutes + sum_minutes b.rules (play b state calls)
+  pub reached : Reached b (end_state state (play b state calls))
 
-pub played : {jobs : ℕ} {rules : List Rule} → Accepted jobs rules → (state : State) → Reached jobs rules state → (calls : List ℕ) → Played jobs rules state calls
+pub played : {b : Book} → Accepted b → (state : State) → Reached b state → (calls : List ℕ) → Played b state calls
 unfolding play end_state count_steps sum_minutes
 played a state d [] = record { shown = tt; counts = omega arith; sums = omega arith; reached = d }
-played {jobs = jobs} {rules = rules} a state d (number ∷ calls) =
-    let called = step_call jobs rules state number in
+played {b = b} a state d (number ∷ calls) =
+    let called = step_call b state number in
     let s = entry a state number d called (view a state number d) in
     let ih = played a called.after s.reached calls in
     record { shown = (s, ih.shown); counts = omega (arith, ih.counts, s.steps_on); sums = omega (arith, ih.sums, s.minutes_on); reached = ih.reached }
@@ -136,54 +137,51 @@ search_violated (r ∷ rules) times = go (satisfied r times) refl (search_violat
     go true e (inl w) = inl (suc w.0, omega (arith, w.1), w.2)
     go true e (inr w) = inr (e, w)
 
-module _ {jobs : ℕ} {rules : List Rule} (a : Accepted jobs rules) {state : State} (d : Reached jobs rules state) where
-  -- a model with no time above zero, as an assignment under the latest times
-  under_zero : (times : List ℤ) → NotAfterZero times → Below (time_at times) (time_at (replicate jobs (pos 0)))
-  under_zero times e job = rw (zero_time jobs job) (each_time (λ (t : ℤ). t ≤ℤ pos 0) times (le_make (omega arith)) e job)
-
-  above_models : (times : List ℤ) → Model jobs rules times → NotAfterZero times → Under times state.times
-  above_models times m e = lemma_7 (time_at times) (keeps_all rules times m.keeps) (under_zero times e) d
+module _ {b : Book} (a : Accepted b) {state : State} (d : Reached b state) where
+  above_models : (times : List ℤ) → Model b times → Under times b.latest → Under times state.times
+  above_models times m u = lemma_7 (time_at times) (keeps_all b.rules times m.keeps) u d
 
   -- with nothing violated, the assignment is the plan
-  pub is_plan : AllSatisfied rules state.times → Plan jobs rules state.times
+  pub is_plan : AllSatisfied b.rules state.times → Plan b state.times
   is_plan sat =
       record {
         model = record { size = size_is a d; keeps = sat };
-        early = time_each (λ (t : ℤ). t ≤ℤ pos 0) state.times (not_after a d);
+        early = λ job. under_latest d job;
         latest = above_models;
       }
 
-  pub with_plan : (plan : List ℤ) → Plan jobs rules plan → WithPlan jobs rules plan state.times state.tally.steps
+  pub with_plan : (plan : List ℤ) → Plan b plan → WithPlan b plan state.times state.tally.steps
   with_plan plan p =
-      let k = keeps_all rules plan p.model.keeps in
-      let u = under_zero plan p.early in
-      let high = stays_high (set_of a) (time_at plan) k u d in
+      let k = keeps_all b.rules plan p.model.keeps in
+      let u = p.early in
+      let high = stays_high (setting a) (time_at plan) k u d in
       record {
         not_below_plan = above_models plan p.model p.early;
-        not_below_floor = high_test (floor rules) state.times high;
-        bound = omega (arith, longest_high (set_of a) d high, room_zero jobs rules);
-        at_bound = λ e. kept_all rules state.times (full (set_of a) (time_at plan) k u d (e ∙ sym (room_zero jobs rules)));
-        is_plan = ((λ e. subst (AllSatisfied rules) (sym e) p.model.keeps), (λ sat. plan_unique (is_plan sat) p));
+        not_below_floor = high_test (floor b) state.times high;
+        bound = omega (arith, longest_high (setting a) d high);
+        at_bound = λ e. kept_all b.rules state.times (full (setting a) (time_at plan) k u d e);
+        is_plan = ((λ e. subst (AllSatisfied b.rules) (sym e) p.model.keeps), (λ sat. plan_unique (is_plan sat) p));
       }
 
-  pub with_none : (((plan : List ℤ) × Plan jobs rules plan) → ⊥) → WithNone jobs rules state.times state.tally.steps
+  pub with_none : (((plan : List ℤ) × Plan b plan) → ⊥) → WithNone b state.times state.tally.steps
   with_none none =
       record {
-        violated = ⊎_elim (λ w. w) (λ sat. absurd (none (state.times, is_plan sat))) (search_violated rules state.times);
-        bound = omega (arith, longest (set_of a) d, room_zero jobs rules);
+        violated = ⊎_elim (λ w. w) (λ sat. absurd (none (state.times, is_plan sat))) (search_violated b.rules state.times);
+        bound = omega (arith, longest (setting a) d);
         at_bound = λ e. by_test_not _ (λ above.
-            omega (arith, longest_high (set_of a) d (test_high (floor rules) state.times (floor_low a) above), room_zero jobs rules));
+            omega (arith, longest_high (setting a) d (test_high (floor b) state.times (floor_low a) above)));
       }
 
 pub demand_3 : Demand3
-demand_3 jobs rules a calls =
-    let p = played a (initial jobs) start calls in
-    let log = play jobs rules (initial jobs) calls in
-    let count : (end_state (initial jobs) log).tally.steps ≡ count_steps log = omega (arith, p.counts) in
+demand_3 b passing calls =
+    let a = (accepted_iff b).0 passing in
+    let p = played a (initial b) start calls in
+    let log = play b (initial b) calls in
+    let count : (end_state (initial b) log).tally.steps ≡ count_steps log = omega (arith, p.counts) in
     record {
-      exactly = each_map (Shown jobs rules) _ log (λ e s. s.exactly) p.shown;
-      lowered = each_map (Shown jobs rules) _ log (λ e s. s.lowered) p.shown;
-      others = each_map (Shown jobs rules) _ log (λ e s. s.others) p.shown;
+      exactly = each_map (Shown b) _ log (λ e s. s.exactly) p.shown;
+      lowered = each_map (Shown b) _ log (λ e s. s.lowered) p.shown;
+      others = each_map (Shown b) _ log (λ e s. s.others) p.shown;
       steps = count;
       minutes = omega (arith, p.sums);
       with_plan = λ plan q. rw count at (with_plan a p.reached plan q);

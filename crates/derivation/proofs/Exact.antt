@@ -1,92 +1,118 @@
 -- Demand 2: the bench run says plan exactly where a model exists, of any sign, and its assignment is then the plan. Assumes nothing.
 use mathlib.Core.Path.{◌≡◌, refl, sym, subst}
 use mathlib.Core.List.{List}
-use Prim.Native.Nat.{ℕ, ◌+◌}
+use Prim.Native.Nat.{ℕ, ◌+◌, ◌*◌}
 use native.Mathlib.Omega.{arith}
-use lib.ListN.{length, replicate}
-use lib.IntN.{ℤ, pos, ◌+ℤ◌}
+use lib.ListN.{length}
+use lib.IntN.{ℤ, pos, ◌+ℤ◌, ◌-ℤ◌}
 use Rattle.maxatom.specs.Rule.{time_at}
-use Rattle.maxatom.specs.Book.{Accepted, Plan, Satisfiable, floor, minus}
+use Rattle.maxatom.specs.Book.{Book, Plan, Satisfiable, zeros, total, smallest, floor, minus}
+use Rattle.maxatom.specs.Accepted.{Accepted}
 use Rattle.maxatom.specs.declared.Rule.{Rule}
 use Rattle.maxatom.specs.Clauses.{Assignment, clauses_of}
 use Rattle.maxatom.proofs.Integers.{up, le_read, le_make, lt_read, add_parts, minus_parts}
-use Rattle.maxatom.specs.Runs.{End, planned, fell, unfinished, passes, sum_by, run}
+use Rattle.maxatom.specs.Runs.{End, planned, fell, unfinished, sum_by, run}
 use Rattle.maxatom.proofs.Lists.{sum_most}
 use Rattle.maxatom.proofs.Clauses.{Below, lemma_1}
-use Rattle.maxatom.proofs.Derivations.{start, longest, stays_high}
-use Rattle.maxatom.proofs.Rules.{keeps_all, room_zero, zero_time}
-use Rattle.maxatom.proofs.Plans.{plan_unique, plan_at_zero}
+use Rattle.maxatom.proofs.Derivations.{start, floor_under, longest, stays_high}
+use Rattle.maxatom.proofs.Rules.{keeps_all, setting, smallest_least, zero_smallest, zero_floor, zero_room}
+use Rattle.maxatom.proofs.Signed.{zero_minus}
+use Rattle.maxatom.proofs.Plans.{plan_unique, plan_at_latest}
+use Rattle.derivation.specs.Refusals.{NotRefused}
 use Rattle.derivation.specs.Step.{State, initial}
 use Rattle.derivation.specs.Play.{rounds}
 use Rattle.derivation.specs.Run.{pass_bound, solve}
-use Rattle.derivation.specs.Demands.{Demand2, RunFacts, PlanFacts}
-use Rattle.derivation.proofs.Reached.{Reached, set_of, high_test, floor_low}
+use Rattle.derivation.specs.Demands.{Demand2, Exact, RunFacts, PlanFacts, AtZero}
+use Rattle.derivation.proofs.Checks.{accepted_iff}
+use Rattle.derivation.proofs.Reached.{Reached, high_test}
 use Rattle.derivation.proofs.AnyOrder.{played, is_plan, with_plan}
 use Rattle.derivation.proofs.Passes.{PassesAre, passes_are, run_through}
 
 -- the state after the calls of all passes
-abbrev last : ℕ → List Rule → State
-last jobs rules = run_through jobs rules (initial jobs) (rounds (pass_bound jobs rules) (length rules))
+abbrev last : Book → State
+last b = run_through b (initial b) (rounds (pass_bound b) (length b.rules))
 
-module _ {jobs : ℕ} {rules : List Rule} (a : Accepted jobs rules) where
-  reached : Reached jobs rules (last jobs rules)
-  reached = (played a (initial jobs) start _).reached
+module _ {b : Book} (a : Accepted b) where
+  reached : Reached b (last b)
+  reached = (played a (initial b) start _).reached
 
-  bench : PassesAre jobs rules (initial jobs) (pass_bound jobs rules) (solve jobs rules)
+  bench : PassesAre b (initial b) (pass_bound b) (solve b)
   unfolding solve run
-  bench =
-      subst (λ (n : ℕ). PassesAre jobs rules (initial jobs) (pass_bound jobs rules) (passes (n + 1) (floor rules) (clauses_of rules) (initial jobs).times 0))
-      (sym (room_zero jobs rules))
-      (passes_are a (pass_bound jobs rules) (initial jobs) start (high_test (floor rules) (replicate jobs (pos 0)) (λ job. rw (zero_time jobs job) (floor_low a))))
+  bench = passes_are a (pass_bound b) (initial b) start (high_test (floor b) b.latest (floor_under (setting a)))
 
-  plan_is : (solve jobs rules).end ≡ planned → Plan jobs rules (solve jobs rules).times
+  plan_is : (solve b).end ≡ planned → Plan b (solve b).times
   plan_is e = rw bench.times_is at (is_plan a reached (rw bench.times_is (bench.planned_is e)))
 
-  -- a fall leaves no model: shifted below zero, it would keep every time at the floor or above
-  no_model_lem : (job : ℕ) → (solve jobs rules).end ≡ fell job → Satisfiable jobs rules → ⊥
+  -- a fall leaves no model: shifted below the smallest latest time, it would keep every time at the floor or above
+  no_model_lem : (job : ℕ) → (solve b).end ≡ fell job → Satisfiable b → ⊥
   no_model_lem job e (times, m) =
-      omega (arith, le_read (rw bench.times_is at (stays_high (set_of a) t (lemma_1 (clauses_of rules) (time_at times) d (keeps_all rules times m.keeps)) below reached job)), lt_read (bench.fell_at job e).1)
+      omega (arith, le_read (rw bench.times_is at (stays_high (setting a) t (lemma_1 (clauses_of b.rules) (time_at times) d (keeps_all b.rules times m.keeps)) below reached job)), lt_read (bench.fell_at job e).1)
     where
       d : ℤ
-      d = minus (sum_by up times)
+      d = smallest b.latest -ℤ pos (sum_by up times)
 
       t : Assignment
       t job = time_at times job +ℤ d
 
-      below : Below t (time_at (replicate jobs (pos 0)))
-      below job = rw (zero_time jobs job) (le_make (omega (arith, sum_most up times job refl, add_parts (time_at times job) d, minus_parts (sum_by up times))))
+      below : Below t (time_at b.latest)
+      below job =
+          le_make
+          (omega (
+            arith,
+            sum_most up times job refl,
+            add_parts (time_at times job) d,
+            add_parts (smallest b.latest) (minus (sum_by up times)),
+            minus_parts (sum_by up times),
+            le_read (smallest_least b.latest job),
+          ))
 
-  ended : (C : Type 0) → ((solve jobs rules).end ≡ planned → C) → ((job : ℕ) → (solve jobs rules).end ≡ fell job → C) → C
-  ended C f g = go (solve jobs rules).end refl
+  ended : (C : Type 0) → ((solve b).end ≡ planned → C) → ((job : ℕ) → (solve b).end ≡ fell job → C) → C
+  ended C f g = go (solve b).end refl
     where
-      go : (e : End) → (solve jobs rules).end ≡ e → C
+      go : (e : End) → (solve b).end ≡ e → C
       go planned q = f q
       go (fell job) q = g job q
       go unfinished q = absurd (bench.ends (omega arith) q)
 
+  pub exact : Exact b
+  exact =
+      record {
+        plan_iff = ((λ e. ((solve b).times, (plan_is e).model)), (λ s. ended _ (λ e. e) (λ job e. absurd (no_model_lem job e s))));
+        plan_is = plan_is;
+        none_iff = ((λ w. no_model_lem w.0 w.1), (λ none. ended _ (λ e. absurd (none ((solve b).times, (plan_is e).model))) (λ job e. (job, e))));
+      }
+
 pub demand_2 : Demand2
-demand_2 jobs rules a =
-    record {
-      plan_iff = ((λ e. ((solve jobs rules).times, (plan_is a e).model)), (λ s. ended a _ (λ e. e) (λ job e. absurd (no_model_lem a job e s))));
-      plan_is = plan_is a;
-      none_iff = ((λ w. no_model_lem a w.0 w.1), (λ none. ended a _ (λ e. absurd (none ((solve jobs rules).times, (plan_is a e).model))) (λ job e. (job, e))));
-    }
+demand_2 b passing = exact ((accepted_iff b).0 passing)
 
-pub run_facts : {jobs : ℕ} {rules : List Rule} → Accepted jobs rules → RunFacts jobs rules
-run_facts {jobs = jobs} {rules = rules} a =
-    record {
-      ends = (bench a).ends (omega arith);
-      plan_steps = λ e. rw (bench a).steps_is at (with_plan a (reached a) _ (plan_is a e)).bound;
-      none_steps = λ job e. rw ((bench a).steps_is, room_zero jobs rules) at (longest (set_of a) (reached a));
-      fallen = (bench a).fell_at;
-      times_are = (bench a).times_is;
-      same_steps = (bench a).steps_is;
-    }
+module _ {b : Book} (passing : NotRefused b) where
+  a : Accepted b
+  a = (accepted_iff b).0 passing
 
-pub plan_facts : {jobs : ℕ} {rules : List Rule} → Accepted jobs rules → PlanFacts jobs rules
-plan_facts {jobs = jobs} {rules = rules} a =
+  pub run_facts : RunFacts b
+  run_facts =
+      record {
+        ends = (bench a).ends (omega arith);
+        plan_steps = λ e. rw (bench a).steps_is at (with_plan a (reached a) _ (plan_is a e)).bound;
+        none_steps = λ job e. rw (bench a).steps_is at (longest (setting a) (reached a));
+        fallen = (bench a).fell_at;
+        times_are = (bench a).times_is;
+        same_steps = (bench a).steps_is;
+      }
+
+  pub plan_facts : PlanFacts b
+  plan_facts =
+      record {
+        plan_iff_model = ((λ w. (w.0, w.1.model)), (λ s. ((solve b).times, plan_is a ((exact a).plan_iff.1 s))));
+        unique = λ p q x y. plan_unique x y;
+        at_latest = λ p x. plan_at_latest a x;
+      }
+
+-- document 01's base, from the definitions with latest times
+pub at_zero : (jobs : ℕ) (rules : List Rule) → AtZero jobs rules
+at_zero jobs rules =
     record {
-      plan_iff_model = ((λ w. (w.0, w.1.model)), (λ s. ((solve jobs rules).times, plan_is a ((demand_2 jobs rules a).plan_iff.1 s))));
-      unique = λ p q x y. plan_unique x y;
-      at_zero = λ p x. plan_at_zero a x;
+      floor_is = zero_floor jobs rules;
+      lowest_is = rw (zero_smallest jobs) (zero_minus (pos (2 * total rules)));
+      bound_is = rw (zero_floor jobs rules) (zero_room jobs rules);
     }

@@ -1,4 +1,4 @@
--- The bench run is its round-robin list of hand steps, and ends within n × K + 1 passes. Assumes nothing.
+-- The bench run is its round-robin list of hand steps, and ends within as many passes as its bound of steps, and one more. Assumes nothing.
 use mathlib.Core.Path.{◌≡◌, refl, sym, ap, subst, ◌∙◌}
 use mathlib.Core.Bool.{Bool, true, false, cond}
 use mathlib.Core.List.{List, [], ◌∷◌, ◌++◌}
@@ -13,7 +13,8 @@ use borrow.Author.Tests.{eqb-true, eqb-false}
 use Rattle.std.specs.Prelude.{Option, Some, None}
 use Rattle.std.proofs.lemmas.Option.{none-some}
 use Rattle.maxatom.specs.Rule.{time_at, left_side, satisfied}
-use Rattle.maxatom.specs.Book.{Accepted, InBook, AllSatisfied, floor}
+use Rattle.maxatom.specs.Book.{Book, AllSatisfied, floor}
+use Rattle.maxatom.specs.Accepted.{InBook, Accepted}
 use Rattle.maxatom.specs.declared.Rule.{Rule}
 use Rattle.maxatom.specs.Clauses.{Clause, clause_of, clauses_of}
 use Rattle.maxatom.specs.Clauses as Test
@@ -22,34 +23,34 @@ use Rattle.maxatom.proofs.Choose.{clash}
 use Rattle.maxatom.proofs.Integers.{le_read, lt_read, lt_true, lt_false, by_test_not}
 use Rattle.maxatom.proofs.Lists.{set_time}
 use Rattle.maxatom.proofs.Derivations.{longest_high}
-use Rattle.maxatom.proofs.Rules.{left_same, room_zero}
+use Rattle.maxatom.proofs.Rules.{left_same, setting}
 use Rattle.derivation.specs.Step.{State, rule_at, below_floor, step_on, Called, step_call}
 use Rattle.derivation.specs.Play.{play, end_state, up_from, rounds}
 use Rattle.derivation.specs.Run.{pass_bound}
-use Rattle.derivation.proofs.Reached.{Reached, set_of, high_test, test_high, floor_low, View, no_rule_lem, too_low, kept, steps, view}
+use Rattle.derivation.proofs.Reached.{Reached, high_test, test_high, floor_low, View, no_rule_lem, too_low, kept, steps, view}
 use Rattle.derivation.proofs.AnyOrder.{each_at, reached_step, allowed, played}
 
 -- the state after a list of calls
-abbrev pub run_through : ℕ → List Rule → State → List ℕ → State
-run_through jobs rules state calls = end_state state (play jobs rules state calls)
+abbrev pub run_through : Book → State → List ℕ → State
+run_through b state calls = end_state state (play b state calls)
 
-pub run_append : (jobs : ℕ) (rules : List Rule) (state : State) (xs ys : List ℕ) →
-    run_through jobs rules state (xs ++ ys) ≡ run_through jobs rules (run_through jobs rules state xs) ys
+pub run_append : (b : Book) (state : State) (xs ys : List ℕ) →
+    run_through b state (xs ++ ys) ≡ run_through b (run_through b state xs) ys
 unfolding play end_state
-run_append jobs rules state [] ys = refl
-run_append jobs rules state (x ∷ xs) ys = run_append jobs rules (step_call jobs rules state x).after xs ys
+run_append b state [] ys = refl
+run_append b state (x ∷ xs) ys = run_append b (step_call b state x).after xs ys
 
-module _ {jobs : ℕ} {rules : List Rule} (a : Accepted jobs rules) where
-  pub after_step : {state : State} {number : ℕ} {called : Called} → View a state number called → number < length rules →
-      below_floor (floor rules) state.times ≡ false → satisfied (rule_at rules number) state.times ≡ false →
-      called.after ≡ step_on (rule_at rules number) state
+module _ {b : Book} (a : Accepted b) where
+  pub after_step : {state : State} {number : ℕ} {called : Called} → View a state number called → number < length b.rules →
+      below_floor (floor b) state.times ≡ false → satisfied (rule_at b.rules number) state.times ≡ false →
+      called.after ≡ step_on (rule_at b.rules number) state
   after_step (no_rule_lem h) i b s = absurd (omega arith)
   after_step (too_low h low) i b s = clash low b
   after_step (kept h above sat) i b s = clash sat s
   after_step (steps h above violated) i b s = refl
 
   after_stay : {state : State} {number : ℕ} {called : Called} → View a state number called →
-      (number < length rules → below_floor (floor rules) state.times ≡ false → satisfied (rule_at rules number) state.times ≡ false → ⊥) →
+      (number < length b.rules → below_floor (floor b) state.times ≡ false → satisfied (rule_at b.rules number) state.times ≡ false → ⊥) →
       called.after ≡ state
   after_stay (no_rule_lem h) n = refl
   after_stay (too_low h low) n = refl
@@ -57,38 +58,38 @@ module _ {jobs : ℕ} {rules : List Rule} (a : Accepted jobs rules) where
   after_stay (steps h above violated) n = absurd (n h above violated)
 
   -- a state from which no call steps stays
-  stay : (state : State) → Reached jobs rules state →
-      ((number : ℕ) → number < length rules → below_floor (floor rules) state.times ≡ false → satisfied (rule_at rules number) state.times ≡ false → ⊥) →
-      (calls : List ℕ) → run_through jobs rules state calls ≡ state
+  stay : (state : State) → Reached b state →
+      ((number : ℕ) → number < length b.rules → below_floor (floor b) state.times ≡ false → satisfied (rule_at b.rules number) state.times ≡ false → ⊥) →
+      (calls : List ℕ) → run_through b state calls ≡ state
   unfolding play end_state
   stay state d n [] = refl
   stay state d n (number ∷ calls) =
-      ap (λ (s : State). run_through jobs rules s calls) (after_stay (view a state number d) (n number)) ∙ stay state d n calls
+      ap (λ (s : State). run_through b s calls) (after_stay (view a state number d) (n number)) ∙ stay state d n calls
 
-  pub stay_low : (state : State) → Reached jobs rules state → below_floor (floor rules) state.times ≡ true → (calls : List ℕ) → run_through jobs rules state calls ≡ state
+  pub stay_low : (state : State) → Reached b state → below_floor (floor b) state.times ≡ true → (calls : List ℕ) → run_through b state calls ≡ state
   stay_low state d low calls = stay state d (λ number h above violated. clash low above) calls
 
-  pub stay_kept : (state : State) → Reached jobs rules state → AllSatisfied rules state.times → (calls : List ℕ) → run_through jobs rules state calls ≡ state
+  pub stay_kept : (state : State) → Reached b state → AllSatisfied b.rules state.times → (calls : List ℕ) → run_through b state calls ≡ state
   stay_kept state d sat calls =
-      stay state d (λ number h above violated. clash (each_at (λ r. satisfied r state.times ≡ true) rules number h sat) violated) calls
+      stay state d (λ number h above violated. clash (each_at (λ r. satisfied r state.times ≡ true) b.rules number h sat) violated) calls
 
   -- what a step does to the floor test
-  module _ {state : State} (d : Reached jobs rules state) (number : ℕ) (h : number < length rules)
-      (above : below_floor (floor rules) state.times ≡ false) (violated : satisfied (rule_at rules number) state.times ≡ false) where
-    pub stays_above : lt_z (left_side (rule_at rules number) state.times) (floor rules) ≡ false →
-        below_floor (floor rules) (step_on (rule_at rules number) state).times ≡ false
+  module _ {state : State} (d : Reached b state) (number : ℕ) (h : number < length b.rules)
+      (above : below_floor (floor b) state.times ≡ false) (violated : satisfied (rule_at b.rules number) state.times ≡ false) where
+    pub stays_above : lt_z (left_side (rule_at b.rules number) state.times) (floor b) ≡ false →
+        below_floor (floor b) (step_on (rule_at b.rules number) state).times ≡ false
     unfolding step_on
     stays_above e =
-        high_test (floor rules) _
-        (λ job. set_time (λ (t : ℤ). floor rules ≤ℤ t) state.times _ job _ (test_high (floor rules) state.times (floor_low a) above job) (λ q. lt_false _ _ e))
+        high_test (floor b) _
+        (λ job. set_time (λ (t : ℤ). floor b ≤ℤ t) state.times _ job _ (test_high (floor b) state.times (floor_low a) above job) (λ q. lt_false _ _ e))
 
-    pub falls_below : lt_z (left_side (rule_at rules number) state.times) (floor rules) ≡ true →
-        below_floor (floor rules) (step_on (rule_at rules number) state).times ≡ true
+    pub falls_below : lt_z (left_side (rule_at b.rules number) state.times) (floor b) ≡ true →
+        below_floor (floor b) (step_on (rule_at b.rules number) state).times ≡ true
     falls_below e =
         by_test_not _
-        (λ q. let r = rule_at rules number in
-        let fall : left_side r state.times <ℤ floor rules = lt_true e in
-        omega (arith, lt_read fall, le_read (rw (allowed a d number h above violated) at (test_high (floor rules) (step_on r state).times (floor_low a) q r.z))))
+        (λ q. let r = rule_at b.rules number in
+        let fall : left_side r state.times <ℤ floor b = lt_true e in
+        omega (arith, lt_read fall, le_read (rw (allowed a d number h above violated) at (test_high (floor b) (step_on r state).times (floor_low a) q r.z))))
 
 head_of : {r s : Rule} {xs ys : List Rule} → ◌≡◌ {A = List Rule} (r ∷ xs) (s ∷ ys) → (r ≡ s) × (xs ≡ ys)
 head_of e = (cc, cc)
@@ -114,21 +115,21 @@ unfolding pass Test.kept satisfied
 pass_rule low r cs times count = rw (left_same r times) refl
 
 -- what a pass over the last rules is, from a state that shows no fall
-pub record PassIs (jobs : ℕ) (rules rest : List Rule) (state : State) (calls : List ℕ) (w : Pass) : Type 0 where
-  pub times_is : (run_through jobs rules state calls).times ≡ w.times
-  pub steps_is : (run_through jobs rules state calls).tally.steps ≡ w.steps
+pub record PassIs (b : Book) (rest : List Rule) (state : State) (calls : List ℕ) (w : Pass) : Type 0 where
+  pub times_is : (run_through b state calls).times ≡ w.times
+  pub steps_is : (run_through b state calls).tally.steps ≡ w.steps
   pub more : state.tally.steps ≤ w.steps
   pub still : w.steps ≡ state.tally.steps → AllSatisfied rest state.times × (w.times ≡ state.times)
-  pub above : w.fallen ≡ None → below_floor (floor rules) w.times ≡ false
-  pub below : (job : ℕ) → w.fallen ≡ Some job → below_floor (floor rules) w.times ≡ true
-  pub fell_at : (job : ℕ) → w.fallen ≡ Some job → (job < jobs) × (time_at w.times job <ℤ floor rules)
+  pub above : w.fallen ≡ None → below_floor (floor b) w.times ≡ false
+  pub below : (job : ℕ) → w.fallen ≡ Some job → below_floor (floor b) w.times ≡ true
+  pub fell_at : (job : ℕ) → w.fallen ≡ Some job → (job < b.jobs) × (time_at w.times job <ℤ floor b)
 
 some_is : {i j : ℕ} → Some i ≡ Some j → i ≡ j
 some_is e = cc
 
-module _ {jobs : ℕ} {rules : List Rule} (a : Accepted jobs rules) where
-  pub pass_is : (rest : List Rule) (i : ℕ) (state : State) → Reached jobs rules state → below_floor (floor rules) state.times ≡ false → drop i rules ≡ rest →
-      PassIs jobs rules rest state (up_from i (length rest)) (pass (floor rules) (clauses_of rest) state.times state.tally.steps)
+module _ {b : Book} (a : Accepted b) where
+  pub pass_is : (rest : List Rule) (i : ℕ) (state : State) → Reached b state → below_floor (floor b) state.times ≡ false → drop i b.rules ≡ rest →
+      PassIs b rest state (up_from i (length rest)) (pass (floor b) (clauses_of rest) state.times state.tally.steps)
   unfolding pass up_from play end_state step_on
   pass_is [] i state d above e =
       record {
@@ -141,10 +142,10 @@ module _ {jobs : ℕ} {rules : List Rule} (a : Accepted jobs rules) where
         fell_at = λ job q. absurd (none-some job q);
       }
   pass_is (r ∷ rest) i state d above e =
-      let q = drop_at rules i r rest e in
-      subst (PassIs jobs rules (r ∷ rest) state (up_from i (length (r ∷ rest)))) (sym (pass_rule (floor rules) r (clauses_of rest) state.times state.tally.steps))
-      (go (satisfied r state.times) (lt_z (left_side r state.times) (floor rules)) refl refl q.0 q.1
-      (λ s d' above'. pass_is rest (i + 1) s d' above' (ap (λ (n : ℕ). drop n rules) (add-one i) ∙ q.2)))
+      let q = drop_at b.rules i r rest e in
+      subst (PassIs b (r ∷ rest) state (up_from i (length (r ∷ rest)))) (sym (pass_rule (floor b) r (clauses_of rest) state.times state.tally.steps))
+      (go (satisfied r state.times) (lt_z (left_side r state.times) (floor b)) refl refl q.0 q.1
+      (λ s d' above'. pass_is rest (i + 1) s d' above' (ap (λ (n : ℕ). drop n b.rules) (add-one i) ∙ q.2)))
     where
       next : List ℕ
       next = up_from (i + 1) (length rest)
@@ -155,16 +156,16 @@ module _ {jobs : ℕ} {rules : List Rule} (a : Accepted jobs rules) where
       dropped : Pass
       dropped = record { times = lowered; steps = state.tally.steps + 1; fallen = Some r.z }
 
-      go : (b c : Bool) → satisfied r state.times ≡ b → lt_z (left_side r state.times) (floor rules) ≡ c → i < length rules → rule_at rules i ≡ r →
-          ((s : State) → Reached jobs rules s → below_floor (floor rules) s.times ≡ false → PassIs jobs rules rest s next (pass (floor rules) (clauses_of rest) s.times s.tally.steps)) →
-          PassIs jobs rules (r ∷ rest) state (i ∷ next)
-          (cond b (pass (floor rules) (clauses_of rest) state.times state.tally.steps) (cond c dropped (pass (floor rules) (clauses_of rest) lowered (state.tally.steps + 1))))
+      go : (sat low : Bool) → satisfied r state.times ≡ sat → lt_z (left_side r state.times) (floor b) ≡ low → i < length b.rules → rule_at b.rules i ≡ r →
+          ((s : State) → Reached b s → below_floor (floor b) s.times ≡ false → PassIs b rest s next (pass (floor b) (clauses_of rest) s.times s.tally.steps)) →
+          PassIs b (r ∷ rest) state (i ∷ next)
+          (cond sat (pass (floor b) (clauses_of rest) state.times state.tally.steps) (cond low dropped (pass (floor b) (clauses_of rest) lowered (state.tally.steps + 1))))
       go true c p q h at on =
           let ih = on state d above in
           let same = after_stay a (view a state i d) (λ _ _ violated. clash (rw at p) violated) in
           record {
-            times_is = ap (λ (s : State). (run_through jobs rules s next).times) same ∙ ih.times_is;
-            steps_is = ap (λ (s : State). (run_through jobs rules s next).tally.steps) same ∙ ih.steps_is;
+            times_is = ap (λ (s : State). (run_through b s next).times) same ∙ ih.times_is;
+            steps_is = ap (λ (s : State). (run_through b s next).tally.steps) same ∙ ih.steps_is;
             more = ih.more;
             still = λ k. let w = ih.still k in ((p, w.0), w.1);
             above = ih.above;
@@ -172,11 +173,11 @@ module _ {jobs : ℕ} {rules : List Rule} (a : Accepted jobs rules) where
             fell_at = ih.fell_at;
           }
       go false true p q h at on =
-          let violated : satisfied (rule_at rules i) state.times ≡ false = rw at p in
-          let down : Reached jobs rules (step_on r state) = rw at at (reached_step a d i h above violated) in
-          let low : below_floor (floor rules) (step_on r state).times ≡ true = rw at at (falls_below a d i h above violated (rw at q)) in
-          let same : (step_call jobs rules state i).after ≡ step_on r state = rw at at (after_step a (view a state i d) h above violated) in
-          let end : run_through jobs rules state (i ∷ next) ≡ step_on r state = ap (λ (s : State). run_through jobs rules s next) same ∙ stay_low a (step_on r state) down low next in
+          let violated : satisfied (rule_at b.rules i) state.times ≡ false = rw at p in
+          let down : Reached b (step_on r state) = rw at at (reached_step a d i h above violated) in
+          let low : below_floor (floor b) (step_on r state).times ≡ true = rw at at (falls_below a d i h above violated (rw at q)) in
+          let same : (step_call b state i).after ≡ step_on r state = rw at at (after_step a (view a state i d) h above violated) in
+          let end : run_through b state (i ∷ next) ≡ step_on r state = ap (λ (s : State). run_through b s next) same ∙ stay_low a (step_on r state) down low next in
           let left : time_at (step_on r state).times r.z ≡ left_side r state.times = rw at at (allowed a d i h above violated) in
           record {
             times_is = ap (λ (s : State). s.times) end;
@@ -185,17 +186,17 @@ module _ {jobs : ℕ} {rules : List Rule} (a : Accepted jobs rules) where
             still = λ k. absurd (omega (arith, k));
             above = λ k. absurd (none-some r.z (sym k));
             below = λ job k. low;
-            fell_at = λ job k. subst (λ (j : ℕ). (j < jobs) × (time_at lowered j <ℤ floor rules)) (some_is k)
-                ((rw at at (each_at (InBook jobs) rules i h a.rules_in).third), rw left (lt_true q));
+            fell_at = λ job k. subst (λ (j : ℕ). (j < b.jobs) × (time_at lowered j <ℤ floor b)) (some_is k)
+                ((rw at at (each_at (InBook b.jobs) b.rules i h a.rules_in).third), rw left (lt_true q));
           }
       go false false p q h at on =
-          let violated : satisfied (rule_at rules i) state.times ≡ false = rw at p in
-          let down : Reached jobs rules (step_on r state) = rw at at (reached_step a d i h above violated) in
-          let same : (step_call jobs rules state i).after ≡ step_on r state = rw at at (after_step a (view a state i d) h above violated) in
+          let violated : satisfied (rule_at b.rules i) state.times ≡ false = rw at p in
+          let down : Reached b (step_on r state) = rw at at (reached_step a d i h above violated) in
+          let same : (step_call b state i).after ≡ step_on r state = rw at at (after_step a (view a state i d) h above violated) in
           let ih = on (step_on r state) down (rw at at (stays_above a d i h above violated (rw at q))) in
           record {
-            times_is = ap (λ (s : State). (run_through jobs rules s next).times) same ∙ ih.times_is;
-            steps_is = ap (λ (s : State). (run_through jobs rules s next).tally.steps) same ∙ ih.steps_is;
+            times_is = ap (λ (s : State). (run_through b s next).times) same ∙ ih.times_is;
+            steps_is = ap (λ (s : State). (run_through b s next).tally.steps) same ∙ ih.steps_is;
             more = omega (arith, ih.more);
             still = λ k. absurd (omega (arith, k, ih.more));
             above = ih.above;
@@ -204,12 +205,12 @@ module _ {jobs : ℕ} {rules : List Rule} (a : Accepted jobs rules) where
           }
 
 -- what n passes are
-pub record PassesAre (jobs : ℕ) (rules : List Rule) (state : State) (n : ℕ) (w : Run) : Type 0 where
-  pub times_is : (run_through jobs rules state (rounds n (length rules))).times ≡ w.times
-  pub steps_is : (run_through jobs rules state (rounds n (length rules))).tally.steps ≡ w.steps
-  pub planned_is : w.end ≡ planned → AllSatisfied rules w.times
-  pub fell_at : (job : ℕ) → w.end ≡ fell job → (job < jobs) × (time_at w.times job <ℤ floor rules)
-  pub ends : pass_bound jobs rules ≤ n + state.tally.steps → w.end ≡ unfinished → ⊥
+pub record PassesAre (b : Book) (state : State) (n : ℕ) (w : Run) : Type 0 where
+  pub times_is : (run_through b state (rounds n (length b.rules))).times ≡ w.times
+  pub steps_is : (run_through b state (rounds n (length b.rules))).tally.steps ≡ w.steps
+  pub planned_is : w.end ≡ planned → AllSatisfied b.rules w.times
+  pub fell_at : (job : ℕ) → w.end ≡ fell job → (job < b.jobs) × (time_at w.times job <ℤ floor b)
+  pub ends : pass_bound b ≤ n + state.tally.steps → w.end ≡ unfinished → ⊥
 
 fell_is : {i j : ℕ} → fell i ≡ fell j → i ≡ j
 fell_is e = cc
@@ -219,9 +220,9 @@ ends_apart : {j : ℕ} → ((planned ≡ fell j) → ⊥) × ((planned ≡ unfin
 ends_apart =
     ((λ e. let z : ◌≡◌ {A = ℕ} 0 1 = cc in omega arith), (λ e. let z : ◌≡◌ {A = ℕ} 0 1 = cc in omega arith), (λ e. let z : ◌≡◌ {A = ℕ} 0 1 = cc in omega arith))
 
-module _ {jobs : ℕ} {rules : List Rule} (a : Accepted jobs rules) where
-  pub passes_are : (n : ℕ) (state : State) → Reached jobs rules state → below_floor (floor rules) state.times ≡ false →
-      PassesAre jobs rules state n (passes n (floor rules) (clauses_of rules) state.times state.tally.steps)
+module _ {b : Book} (a : Accepted b) where
+  pub passes_are : (n : ℕ) (state : State) → Reached b state → below_floor (floor b) state.times ≡ false →
+      PassesAre b state n (passes n (floor b) (clauses_of b.rules) state.times state.tally.steps)
   unfolding passes rounds play end_state
   passes_are zero state d above =
       record {
@@ -229,38 +230,38 @@ module _ {jobs : ℕ} {rules : List Rule} (a : Accepted jobs rules) where
         steps_is = refl;
         planned_is = λ e. absurd ((ends_apart {j = 0}).1 (sym e));
         fell_at = λ job e. absurd (ends_apart.2 (sym e));
-        ends = λ few e. omega (arith, longest_high (set_of a) d (test_high (floor rules) state.times (floor_low a) above), room_zero jobs rules);
+        ends = λ few e. omega (arith, longest_high (setting a) d (test_high (floor b) state.times (floor_low a) above));
       }
   passes_are (suc n) state d above =
-      let p = pass_is a rules 0 state d above refl in
-      go (pass (floor rules) (clauses_of rules) state.times state.tally.steps).fallen
-      (eqb (pass (floor rules) (clauses_of rules) state.times state.tally.steps).steps state.tally.steps) refl refl p
+      let p = pass_is a b.rules 0 state d above refl in
+      go (pass (floor b) (clauses_of b.rules) state.times state.tally.steps).fallen
+      (eqb (pass (floor b) (clauses_of b.rules) state.times state.tally.steps).steps state.tally.steps) refl refl p
       (λ high. passes_are n mid reached (rw p.times_is high))
     where
       calls : List ℕ
-      calls = up_from 0 (length rules)
+      calls = up_from 0 (length b.rules)
 
       mid : State
-      mid = run_through jobs rules state calls
+      mid = run_through b state calls
 
-      reached : Reached jobs rules mid
+      reached : Reached b mid
       reached = (played a state d calls).reached
 
       w : Pass
-      w = pass (floor rules) (clauses_of rules) state.times state.tally.steps
+      w = pass (floor b) (clauses_of b.rules) state.times state.tally.steps
 
-      joined : run_through jobs rules state (rounds (suc n) (length rules)) ≡ run_through jobs rules mid (rounds n (length rules))
-      joined = run_append jobs rules state calls (rounds n (length rules))
+      joined : run_through b state (rounds (suc n) (length b.rules)) ≡ run_through b mid (rounds n (length b.rules))
+      joined = run_append b state calls (rounds n (length b.rules))
 
       ended : End → Run
       ended end = record { times = w.times; steps = w.steps; end = end }
 
-      go : (o : Option ℕ) (c : Bool) → w.fallen ≡ o → eqb w.steps state.tally.steps ≡ c → PassIs jobs rules rules state calls w →
-          (below_floor (floor rules) w.times ≡ false → PassesAre jobs rules mid n (passes n (floor rules) (clauses_of rules) mid.times mid.tally.steps)) →
-          PassesAre jobs rules state (suc n)
-          (elim o [ Some job ↦ ended (fell job) | None ↦ cond c (ended planned) (passes n (floor rules) (clauses_of rules) w.times w.steps) ])
+      go : (o : Option ℕ) (c : Bool) → w.fallen ≡ o → eqb w.steps state.tally.steps ≡ c → PassIs b b.rules state calls w →
+          (below_floor (floor b) w.times ≡ false → PassesAre b mid n (passes n (floor b) (clauses_of b.rules) mid.times mid.tally.steps)) →
+          PassesAre b state (suc n)
+          (elim o [ Some job ↦ ended (fell job) | None ↦ cond c (ended planned) (passes n (floor b) (clauses_of b.rules) w.times w.steps) ])
       go (Some job) c e g p on =
-          let end = joined ∙ stay_low a mid reached (rw p.times_is (p.below job e)) (rounds n (length rules)) in
+          let end = joined ∙ stay_low a mid reached (rw p.times_is (p.below job e)) (rounds n (length b.rules)) in
           record {
             times_is = ap (λ (s : State). s.times) end ∙ p.times_is;
             steps_is = ap (λ (s : State). s.tally.steps) end ∙ p.steps_is;
@@ -270,8 +271,8 @@ module _ {jobs : ℕ} {rules : List Rule} (a : Accepted jobs rules) where
           }
       go None true e g p on =
           let still = p.still (eqb-true w.steps state.tally.steps g) in
-          let sat : AllSatisfied rules w.times = rw still.1 still.0 in
-          let end = joined ∙ stay_kept a mid reached (rw p.times_is sat) (rounds n (length rules)) in
+          let sat : AllSatisfied b.rules w.times = rw still.1 still.0 in
+          let end = joined ∙ stay_kept a mid reached (rw p.times_is sat) (rounds n (length b.rules)) in
           record {
             times_is = ap (λ (s : State). s.times) end ∙ p.times_is;
             steps_is = ap (λ (s : State). s.tally.steps) end ∙ p.steps_is;
@@ -280,9 +281,9 @@ module _ {jobs : ℕ} {rules : List Rule} (a : Accepted jobs rules) where
             ends = λ few q. (ends_apart {j = 0}).1 q;
           }
       go None false e g p on =
-          let same : passes n (floor rules) (clauses_of rules) mid.times mid.tally.steps ≡ passes n (floor rules) (clauses_of rules) w.times w.steps =
-          ap (λ (t : List ℤ). passes n (floor rules) (clauses_of rules) t mid.tally.steps) p.times_is ∙ ap (λ (k : ℕ). passes n (floor rules) (clauses_of rules) w.times k) p.steps_is in
-          let ih = subst (PassesAre jobs rules mid n) same (on (p.above e)) in
+          let same : passes n (floor b) (clauses_of b.rules) mid.times mid.tally.steps ≡ passes n (floor b) (clauses_of b.rules) w.times w.steps =
+          ap (λ (t : List ℤ). passes n (floor b) (clauses_of b.rules) t mid.tally.steps) p.times_is ∙ ap (λ (k : ℕ). passes n (floor b) (clauses_of b.rules) w.times k) p.steps_is in
+          let ih = subst (PassesAre b mid n) same (on (p.above e)) in
           record {
             times_is = ap (λ (s : State). s.times) joined ∙ ih.times_is;
             steps_is = ap (λ (s : State). s.tally.steps) joined ∙ ih.steps_is;

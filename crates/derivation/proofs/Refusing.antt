@@ -5,12 +5,14 @@ use mathlib.Core.List.{List, [], ◌∷◌}
 use Prim.Native.Nat.{ℕ, ◌+◌}
 use native.Mathlib.Omega.{arith}
 use lib.IntN.{ℤ}
+use lib.Dec.{eqb}
+use lib.ListN.{length}
 use Rattle.std.specs.List.{Contains}
-use Rattle.maxatom.specs.Book.{Each}
+use Rattle.maxatom.specs.Book.{Each, Book}
 use Rattle.maxatom.specs.declared.Rule.{Rule}
-use Rattle.derivation.specs.Refusals.{refused, accepts, Check, check, reply, lent, table_checks, times_checks, rule_checks}
+use Rattle.derivation.specs.Refusals.{refused, accepts, Check, check, reply, lent, rule_checks, table_checks, time_checks, size_check, latest_checks, book_checks, times_checks}
 use Rattle.derivation.specs.Step.{step_checks, step_call, called_by}
-use Rattle.derivation.specs.Calls.{model_check_call, tight_call, initial_reply, initial_times, run_reply, run_times}
+use Rattle.derivation.specs.Calls.{model_check_call, tight_call, initial_checks, initial_reply, initial_times, run_reply, run_times}
 use Rattle.derivation.specs.Demand1.{FirstHolds, Refuses, Refusing, Demand1}
 use Rattle.maxatom.proofs.Lists.{each_join}
 use Rattle.derivation.proofs.Checks.{says, skips_all, each_left, passed, accepting, answer_not}
@@ -68,10 +70,25 @@ module _ {A : Type 0} (a : A) where
   refusing numbers checks before after e =
       record { says = refuses numbers checks e; unchanged = λ number place said. rw said }
 
--- the numbers of a table's checks, and others behind them
+-- the checks of a list of latest times have the numbers 8 and 21
+module _ (numbers : List ℕ) (eight : Contains numbers 8) (size : Contains numbers 21) where
+  time_numbers : (at : ℕ) (latest : List ℤ) → Each (λ c. Contains numbers c.number) (time_checks at latest)
+  unfolding time_checks
+  time_numbers at [] = tt
+  time_numbers at (t ∷ latest) = (eight, time_numbers (at + 1) latest)
+
+  latest_numbers : (jobs : ℕ) (latest : List ℤ) → Each (λ c. Contains numbers c.number) (latest_checks jobs latest)
+  unfolding latest_checks
+  latest_numbers jobs latest = go (eqb (length latest) jobs)
+    where
+      go : (t : Bool) → Each (λ c. Contains numbers c.number) (cond t (time_checks 0 latest) (size_check jobs latest ∷ []))
+      go true = time_numbers 0 latest
+      go false = (size, tt)
+
+-- the numbers of the checks of a book and its times, and others behind them
 module _ (more : List ℕ) where
   abbrev numbers : List ℕ
-  numbers = 4 ∷ 5 ∷ 6 ∷ 7 ∷ 21 ∷ more
+  numbers = 4 ∷ 5 ∷ 6 ∷ 7 ∷ 8 ∷ 21 ∷ more
 
   abbrev Own : Check → Type 0
   Own c = Contains numbers c.number
@@ -81,22 +98,29 @@ module _ (more : List ℕ) where
   rule_numbers jobs at [] = tt
   rule_numbers jobs at (r ∷ rules) = ((2, omega arith, refl), ((3, omega arith, refl), rule_numbers jobs (at + 1) rules))
 
-  times_numbers : (jobs : ℕ) (rules : List Rule) (times : List ℤ) → Each Own (times_checks jobs rules times)
-  unfolding table_checks times_checks
-  times_numbers jobs rules times =
-      each_join Own (table_checks jobs rules) _ ((0, omega arith, refl), ((1, omega arith, refl), rule_numbers jobs 0 rules)) ((4, omega arith, refl), tt)
+  times_numbers : (b : Book) (times : List ℤ) → Each Own (times_checks b times)
+  unfolding table_checks book_checks times_checks
+  times_numbers b times =
+      each_join Own (book_checks b) _
+      (each_join Own (table_checks b.jobs b.rules) _ ((0, omega arith, refl), ((1, omega arith, refl), rule_numbers b.jobs 0 b.rules))
+      (latest_numbers numbers (4, omega arith, refl) (5, omega arith, refl) b.jobs b.latest))
+      ((5, omega arith, refl), tt)
 
 pub demand_1 : Demand1
-unfolding model_check_call tight_call initial_reply initial_times run_reply run_times step_call called_by step_checks
+unfolding model_check_call tight_call initial_checks initial_reply initial_times run_reply run_times step_call called_by step_checks
 demand_1 =
     record {
-      model_check = λ jobs rules times. refuses _ _ _ (times_numbers [] jobs rules times);
-      tight = λ jobs rules times number.
-          refuses _ _ _ (each_join _ (times_checks jobs rules times) _ (times_numbers (24 ∷ []) jobs rules times) ((5, omega arith, refl), tt));
-      initial = λ jobs times. refusing _ _ _ _ _ ((0, omega arith, refl), ((1, omega arith, refl), tt));
-      step = λ jobs rules state number.
+      model_check = λ b times. refuses _ _ _ (times_numbers [] b times);
+      tight = λ b times number. refuses _ _ _ (each_join _ (times_checks b times) _ (times_numbers (24 ∷ []) b times) ((6, omega arith, refl), tt));
+      initial = λ jobs latest times.
+          refusing _ _ _ _ _ (
+            (0, omega arith, refl),
+            each_join _ (latest_checks jobs latest) _ (latest_numbers (4 ∷ 8 ∷ 21 ∷ []) (1, omega arith, refl) (2, omega arith, refl) jobs latest)
+                ((2, omega arith, refl), tt),
+          );
+      step = λ b state number.
           refusing _ _ _ _ _
-          (each_join _ (times_checks jobs rules state.times) _ (times_numbers (22 ∷ 23 ∷ 24 ∷ 25 ∷ 26 ∷ []) jobs rules state.times)
-          ((5, omega arith, refl), ((6, omega arith, refl), ((7, omega arith, refl), ((8, omega arith, refl), ((9, omega arith, refl), tt))))));
-      solve = λ jobs rules buffer. refusing _ _ _ _ _ (times_numbers [] jobs rules buffer);
+          (each_join _ (times_checks b state.times) _ (times_numbers (22 ∷ 23 ∷ 24 ∷ 25 ∷ 26 ∷ []) b state.times)
+          ((6, omega arith, refl), ((7, omega arith, refl), ((8, omega arith, refl), ((9, omega arith, refl), ((10, omega arith, refl), tt))))));
+      solve = λ b buffer. refusing _ _ _ _ _ (times_numbers [] b buffer);
     }

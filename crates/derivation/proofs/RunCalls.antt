@@ -4,68 +4,68 @@ use mathlib.Core.List.{List}
 use Rattle.std.specs.Prelude.{Result, Ok, Err}
 use Prim.Native.Nat.{ℕ}
 use lib.IntN.{ℤ}
-use Rattle.maxatom.specs.Book.{Accepted}
-use Rattle.maxatom.specs.declared.Rule.{Rule}
+use Rattle.maxatom.specs.Book.{Book}
 use Rattle.maxatom.specs.Runs.{planned, fell}
-use Rattle.derivation.specs.Refusals.{Reply, refused, answer, accepts, lent, verdict, times_checks}
+use Rattle.derivation.specs.Refusals.{Reply, refused, answer, accepts, lent, verdict, NotRefused, times_checks}
 use Rattle.derivation.specs.Run.{solve}
 use Rattle.derivation.specs.Calls.{Answer, answer_of, run_reply, run_times}
 use Rattle.derivation.specs.Faults.{number_of}
-use Rattle.derivation.specs.Replies.{solved_reply, Meaning, SolvedAs, SolvedCall}
+use Rattle.derivation.specs.Replies.{solved_reply, Meaning, SolvedCall}
+use Rattle.derivation.specs.Inner.{SolvedAs}
 use Rattle.derivation.specs.declared.Refusal.{Refusal}
 use Rattle.derivation.specs.declared.Solved.{Solved}
-use Rattle.derivation.proofs.Checks.{accepting, passed, refused_same, answered_same, times_accepted}
+use Rattle.derivation.proofs.Checks.{accepting, passed, refused_same, answered_same, accepted_iff, times_accepted}
 use Rattle.derivation.proofs.Exact.{demand_2, run_facts}
 
-module _ (jobs : ℕ) (rules : List Rule) (buffer : List ℤ) where
-  lent_by : {said : Reply Answer} → run_reply jobs rules buffer ≡ said → run_times jobs rules buffer ≡ lent said buffer (solve jobs rules).times
+module _ (b : Book) (buffer : List ℤ) where
+  lent_by : {said : Reply Answer} → run_reply b buffer ≡ said → run_times b buffer ≡ lent said buffer (solve b).times
   unfolding run_times
-  lent_by e = ap (λ (said : Reply Answer). lent said buffer (solve jobs rules).times) e
+  lent_by e = ap (λ (said : Reply Answer). lent said buffer (solve b).times) e
 
-  run_refused : (q : Refusal) → verdict (times_checks jobs rules buffer) ≡ refused (number_of q.fault) q.place →
-      (solved_reply (Err q) ≡ run_reply jobs rules buffer) × (buffer ≡ run_times jobs rules buffer)
+  run_refused : (q : Refusal) → verdict (times_checks b buffer) ≡ refused (number_of q.fault) q.place →
+      (solved_reply (Err q) ≡ run_reply b buffer) × (buffer ≡ run_times b buffer)
   unfolding run_reply lent
   run_refused q e =
-      let r = refused_same tt (answer_of (solve jobs rules)) (times_checks jobs rules buffer) e in
+      let r = refused_same tt (answer_of (solve b)) (times_checks b buffer) e in
       (sym r, sym (lent_by r))
 
-  run_answered : verdict (times_checks jobs rules buffer) ≡ answer tt → (r : Solved) (t : List ℤ) → SolvedAs (solve jobs rules) r t →
-      (solved_reply (Ok r) ≡ run_reply jobs rules buffer) × (t ≡ run_times jobs rules buffer)
+  run_answered : verdict (times_checks b buffer) ≡ answer tt → (r : Solved) (t : List ℤ) → SolvedAs (solve b) r t →
+      (solved_reply (Ok r) ≡ run_reply b buffer) × (t ≡ run_times b buffer)
   unfolding run_reply lent
   run_answered e r t s =
-      let q = answered_same tt (answer_of (solve jobs rules)) (times_checks jobs rules buffer) e in
+      let q = answered_same tt (answer_of (solve b)) (times_checks b buffer) e in
       (ap answer s.said ∙ sym q, s.left ∙ sym (lent_by q))
 
-  same_answer : {a b : Answer} → answer a ≡ answer b → a ≡ b
+  same_answer : {v w : Answer} → answer v ≡ answer w → v ≡ w
   same_answer e = cc
 
-  -- an answer is the run's, of an accepted book, and the times are those that the run left
-  pub answered : (w : Answer) → run_reply jobs rules buffer ≡ answer w →
-      Accepted jobs rules × (answer_of (solve jobs rules) ≡ w) × (run_times jobs rules buffer ≡ (solve jobs rules).times)
+  -- an answer is the run's, of a book that is not refused, and the times are those that the run left
+  pub answered : (w : Answer) → run_reply b buffer ≡ answer w →
+      NotRefused b × (answer_of (solve b) ≡ w) × (run_times b buffer ≡ (solve b).times)
   unfolding run_reply accepts lent
   answered w e =
-      let whole = accepting (times_checks jobs rules buffer) (answer_of (solve jobs rules)) (passed (times_checks jobs rules buffer) (answer_of (solve jobs rules)) (ap accepts e)) in
-      ((times_accepted (answer_of (solve jobs rules)) jobs rules buffer whole).0, same_answer (sym whole ∙ e), lent_by whole)
+      let whole = accepting (times_checks b buffer) (answer_of (solve b)) (passed (times_checks b buffer) (answer_of (solve b)) (ap accepts e)) in
+      ((accepted_iff b).1 (times_accepted (answer_of (solve b)) b buffer whole).0, same_answer (sym whole ∙ e), lent_by whole)
 
   -- so the equations say what plan and none mean
-  means : (r : Result Solved Refusal) (t : List ℤ) → solved_reply r ≡ run_reply jobs rules buffer → t ≡ run_times jobs rules buffer → Meaning jobs rules r t
+  means : (r : Result Solved Refusal) (t : List ℤ) → solved_reply r ≡ run_reply b buffer → t ≡ run_times b buffer → Meaning b r t
   means r t said left =
       record {
         plan = λ n x.
-            let (a, w, q) = answered _ (sym said ∙ ap solved_reply x) in
-            let end : (solve jobs rules).end ≡ planned = ap (λ (v : Answer). v.end) w in
-            (rw (left, q) ((demand_2 jobs rules a).plan_is end), rw (ap (λ (v : Answer). v.steps) w) at ((run_facts a).plan_steps end));
+            let (passing, w, q) = answered _ (sym said ∙ ap solved_reply x) in
+            let end : (solve b).end ≡ planned = ap (λ (v : Answer). v.end) w in
+            (rw (left, q) ((demand_2 b passing).plan_is end), rw (ap (λ (v : Answer). v.steps) w) at ((run_facts passing).plan_steps end));
         none = λ n job x.
-            let (a, w, q) = answered _ (sym said ∙ ap solved_reply x) in
-            let end : (solve jobs rules).end ≡ fell job = ap (λ (v : Answer). v.end) w in
-            ((demand_2 jobs rules a).none_iff.0 (job, end), rw (ap (λ (v : Answer). v.steps) w) at ((run_facts a).none_steps job end));
+            let (passing, w, q) = answered _ (sym said ∙ ap solved_reply x) in
+            let end : (solve b).end ≡ fell job = ap (λ (v : Answer). v.end) w in
+            ((demand_2 b passing).none_iff.0 (job, end), rw (ap (λ (v : Answer). v.steps) w) at ((run_facts passing).none_steps job end));
       }
 
-  by_equations : (r : Result Solved Refusal) (t : List ℤ) → (solved_reply r ≡ run_reply jobs rules buffer) × (t ≡ run_times jobs rules buffer) → SolvedCall jobs rules buffer r t
+  by_equations : (r : Result Solved Refusal) (t : List ℤ) → (solved_reply r ≡ run_reply b buffer) × (t ≡ run_times b buffer) → SolvedCall b buffer r t
   by_equations r t q = record { said = q.0; left = q.1; means = means r t q.0 q.1 }
 
-  pub call_refused : (q : Refusal) → verdict (times_checks jobs rules buffer) ≡ refused (number_of q.fault) q.place → SolvedCall jobs rules buffer (Err q) buffer
+  pub call_refused : (q : Refusal) → verdict (times_checks b buffer) ≡ refused (number_of q.fault) q.place → SolvedCall b buffer (Err q) buffer
   call_refused q e = by_equations (Err q) buffer (run_refused q e)
 
-  pub call_answered : verdict (times_checks jobs rules buffer) ≡ answer tt → (r : Solved) (t : List ℤ) → SolvedAs (solve jobs rules) r t → SolvedCall jobs rules buffer (Ok r) t
+  pub call_answered : verdict (times_checks b buffer) ≡ answer tt → (r : Solved) (t : List ℤ) → SolvedAs (solve b) r t → SolvedCall b buffer (Ok r) t
   call_answered e r t s = by_equations (Ok r) t (run_answered e r t s)

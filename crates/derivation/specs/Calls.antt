@@ -1,9 +1,10 @@
 -- The other calls on a table: kept test, tight test, fresh board, bench run.
-use Rattle.std.specs.Prelude.{Bool, cond, List, [], ◌∷◌, ◌++◌, ℕ, ◌+◌, length, replicate, ℤ, pos}
+use Rattle.std.specs.Prelude.{Bool, cond, List, [], ◌∷◌, ◌++◌, ℕ, ◌+◌, length, ℤ}
 use Rattle.maxatom.specs.Rule.{satisfied, tight}
+use Rattle.maxatom.specs.Book.{Book}
 use Rattle.maxatom.specs.declared.Rule.{Rule}
 use Rattle.maxatom.specs.Runs.{End, Run}
-use Rattle.derivation.specs.Refusals.{Reply, reply, verdict, lent, jobs_check, size_check, times_checks, rule_check}
+use Rattle.derivation.specs.Refusals.{Reply, Check, reply, verdict, lent, jobs_check, size_check, latest_checks, times_checks, rule_check}
 use Rattle.derivation.specs.Step.{rule_at}
 use Rattle.derivation.specs.Run.{solve}
 
@@ -20,20 +21,22 @@ first_violated at (r ∷ rules) times =
     cond (satisfied r times) rest (violates at)
 
 -- kept test
-unfoldable pub model_check_call : ℕ → List Rule → List ℤ → Reply ModelCheck
-model_check_call jobs rules times = reply (times_checks jobs rules times) (first_violated 0 rules times)
+unfoldable pub model_check_call : Book → List ℤ → Reply ModelCheck
+model_check_call b times = reply (times_checks b times) (first_violated 0 b.rules times)
 
 -- tight test
-unfoldable pub tight_call : ℕ → List Rule → List ℤ → ℕ → Reply Bool
-tight_call jobs rules times number =
-    reply (times_checks jobs rules times ++ (rule_check (length rules) number ∷ [])) (tight (rule_at rules number) times)
+unfoldable pub tight_call : Book → List ℤ → ℕ → Reply Bool
+tight_call b times number = reply (times_checks b times ++ (rule_check (length b.rules) number ∷ [])) (tight (rule_at b.rules number) times)
 
--- fresh board: the reply, and the lent board after
-unfoldable pub initial_reply : ℕ → List ℤ → Reply (Unit {0})
-initial_reply jobs times = verdict (jobs_check jobs ∷ size_check jobs times ∷ [])
+-- fresh board, which takes no table: the reply, and the lent board after
+unfoldable pub initial_checks : ℕ → List ℤ → List ℤ → List Check
+initial_checks jobs latest times = jobs_check jobs ∷ latest_checks jobs latest ++ (size_check jobs times ∷ [])
 
-unfoldable pub initial_times : ℕ → List ℤ → List ℤ
-initial_times jobs times = lent (initial_reply jobs times) times (replicate jobs (pos 0))
+unfoldable pub initial_reply : ℕ → List ℤ → List ℤ → Reply (Unit {0})
+initial_reply jobs latest times = verdict (initial_checks jobs latest times)
+
+unfoldable pub initial_times : ℕ → List ℤ → List ℤ → List ℤ
+initial_times jobs latest times = lent (initial_reply jobs latest times) times latest
 
 -- what the bench run answers: the number of steps, and plan, or none with the job that fell
 pub record Answer : Type 0 where
@@ -44,8 +47,8 @@ abbrev pub answer_of : Run → Answer
 answer_of run = record { steps = run.steps; end = run.end }
 
 -- bench run: the reply, and the lent buffer after
-unfoldable pub run_reply : ℕ → List Rule → List ℤ → Reply Answer
-run_reply jobs rules buffer = reply (times_checks jobs rules buffer) (answer_of (solve jobs rules))
+unfoldable pub run_reply : Book → List ℤ → Reply Answer
+run_reply b buffer = reply (times_checks b buffer) (answer_of (solve b))
 
-unfoldable pub run_times : ℕ → List Rule → List ℤ → List ℤ
-run_times jobs rules buffer = lent (run_reply jobs rules buffer) buffer (solve jobs rules).times
+unfoldable pub run_times : Book → List ℤ → List ℤ
+run_times b buffer = lent (run_reply b buffer) buffer (solve b).times

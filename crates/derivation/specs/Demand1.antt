@@ -1,11 +1,10 @@
 -- Demand 1, as one statement: what each call on a table says, over any arguments at all. Its proof: proofs/Refusing.antt.
 use Rattle.std.specs.Prelude.{◌≡◌, ◌↔◌, true, false, List, [], ◌∷◌, ◌++◌, ℕ, length, ℤ}
 use Rattle.std.specs.List.{Contains}
-use Rattle.maxatom.specs.Book.{Each}
-use Rattle.maxatom.specs.declared.Rule.{Rule}
-use Rattle.derivation.specs.Refusals.{Reply, refused, accepts, Check, check, jobs_check, size_check, times_checks, rule_check}
+use Rattle.maxatom.specs.Book.{Each, Book}
+use Rattle.derivation.specs.Refusals.{Reply, refused, accepts, Check, check, times_checks, rule_check}
 use Rattle.derivation.specs.Step.{State, step_checks, step_call}
-use Rattle.derivation.specs.Calls.{model_check_call, tight_call, initial_reply, initial_times, run_reply, run_times}
+use Rattle.derivation.specs.Calls.{model_check_call, tight_call, initial_checks, initial_reply, initial_times, run_reply, run_times}
 
 -- "its condition is the first to hold": a condition with this number and place holds, and none that stands before it in the list
 pub record FirstHolds (checks : List Check) (number place : ℕ) : Type 0 where
@@ -29,18 +28,18 @@ pub record Refusing {A S : Type 0} (numbers : List ℕ) (checks : List Check) (s
 -- the calls on a table, and the fresh board, each with its numbers; the two tests are lent nothing that they could change
 pub record Demand1 : Type 0 where
   -- kept test
-  pub model_check : (jobs : ℕ) (rules : List Rule) (times : List ℤ) →
-      Refuses (4 ∷ 5 ∷ 6 ∷ 7 ∷ 21 ∷ []) (times_checks jobs rules times) (model_check_call jobs rules times)
+  pub model_check : (b : Book) (times : List ℤ) →
+      Refuses (4 ∷ 5 ∷ 6 ∷ 7 ∷ 8 ∷ 21 ∷ []) (times_checks b times) (model_check_call b times)
   -- tight test
-  pub tight : (jobs : ℕ) (rules : List Rule) (times : List ℤ) (number : ℕ) →
-      Refuses (4 ∷ 5 ∷ 6 ∷ 7 ∷ 21 ∷ 24 ∷ []) (times_checks jobs rules times ++ (rule_check (length rules) number ∷ [])) (tight_call jobs rules times number)
+  pub tight : (b : Book) (times : List ℤ) (number : ℕ) →
+      Refuses (4 ∷ 5 ∷ 6 ∷ 7 ∷ 8 ∷ 21 ∷ 24 ∷ []) (times_checks b times ++ (rule_check (length b.rules) number ∷ [])) (tight_call b times number)
   -- fresh board
-  pub initial : (jobs : ℕ) (times : List ℤ) →
-      Refusing (4 ∷ 21 ∷ []) (jobs_check jobs ∷ size_check jobs times ∷ []) (initial_reply jobs times) times (initial_times jobs times)
+  pub initial : (jobs : ℕ) (latest times : List ℤ) →
+      Refusing (4 ∷ 8 ∷ 21 ∷ []) (initial_checks jobs latest times) (initial_reply jobs latest times) times (initial_times jobs latest times)
   -- hand step: board and tally
-  pub step : (jobs : ℕ) (rules : List Rule) (state : State) (number : ℕ) →
-      Refusing (4 ∷ 5 ∷ 6 ∷ 7 ∷ 21 ∷ 22 ∷ 23 ∷ 24 ∷ 25 ∷ 26 ∷ []) (step_checks jobs rules state number)
-      (step_call jobs rules state number).said state (step_call jobs rules state number).after
+  pub step : (b : Book) (state : State) (number : ℕ) →
+      Refusing (4 ∷ 5 ∷ 6 ∷ 7 ∷ 8 ∷ 21 ∷ 22 ∷ 23 ∷ 24 ∷ 25 ∷ 26 ∷ []) (step_checks b state number)
+      (step_call b state number).said state (step_call b state number).after
   -- bench run
-  pub solve : (jobs : ℕ) (rules : List Rule) (buffer : List ℤ) →
-      Refusing (4 ∷ 5 ∷ 6 ∷ 7 ∷ 21 ∷ []) (times_checks jobs rules buffer) (run_reply jobs rules buffer) buffer (run_times jobs rules buffer)
+  pub solve : (b : Book) (buffer : List ℤ) →
+      Refusing (4 ∷ 5 ∷ 6 ∷ 7 ∷ 8 ∷ 21 ∷ []) (times_checks b buffer) (run_reply b buffer) buffer (run_times b buffer)

@@ -1,19 +1,19 @@
 -- Demands 2 and 3, each as one statement. Their proofs: proofs/Exact.antt and proofs/AnyOrder.antt.
-use Rattle.std.specs.Prelude.{◌≡◌, ◌↔◌, ◌⊎◌, true, false, List, ℕ, ◌+◌, ◌*◌, ◌<◌, ◌≤◌, length, ℤ, pos, ◌<ℤ◌}
+use Rattle.std.specs.Prelude.{◌≡◌, ◌↔◌, ◌⊎◌, true, false, List, ℕ, ◌+◌, ◌*◌, ◌<◌, ◌≤◌, length, ℤ, ◌<ℤ◌}
 use Rattle.maxatom.specs.Rule.{time_at, left_side, satisfied}
-use Rattle.maxatom.specs.Book.{Each, Accepted, AllSatisfied, Satisfiable, Plan, Under, total, floor}
+use Rattle.maxatom.specs.Book.{Book, zeros, Each, AllSatisfied, Satisfiable, Plan, Under, total, minus, floor}
 use Rattle.maxatom.specs.declared.Rule.{Rule}
 use Rattle.maxatom.specs.Runs.{planned, fell, unfinished}
-use Rattle.derivation.specs.Refusals.{refused}
-use Rattle.derivation.specs.Step.{State, initial, rule_at, below_floor}
+use Rattle.derivation.specs.Refusals.{refused, NotRefused}
+use Rattle.derivation.specs.Step.{State, initial, rule_at, lowest, below_floor}
 use Rattle.derivation.specs.Play.{Entry, play, end_state, stepped, count_steps, sum_minutes, rounds}
-use Rattle.derivation.specs.Run.{pass_bound, solve}
+use Rattle.derivation.specs.Run.{step_bound, pass_bound, solve}
 
 -- Demand 3. "which calls stepped": it named a rule of the book, broken just then, while no job stood below the floor
-pub record Due (rules : List Rule) (e : Entry) : Type 0 where
-  pub of_book : e.asked < length rules
-  pub violated : satisfied (rule_at rules e.asked) e.before.times ≡ false
-  pub above : below_floor (floor rules) e.before.times ≡ false
+pub record Due (b : Book) (e : Entry) : Type 0 where
+  pub of_book : e.asked < length b.rules
+  pub violated : satisfied (rule_at b.rules e.asked) e.before.times ≡ false
+  pub above : below_floor (floor b) e.before.times ≡ false
 
 -- "lowered the rule's third job, and no other, to what the rule allows"
 pub record Lowered (r : Rule) (before after : List ℤ) : Type 0 where
@@ -28,61 +28,65 @@ pub record Unchanged (e : Entry) : Type 0 where
   pub number : (e.said ≡ refused 24 0) ⊎ ((e.said ≡ refused 25 0) ⊎ (e.said ≡ refused 26 0))
 
 -- "If a plan exists"
-pub record WithPlan (jobs : ℕ) (rules : List Rule) (plan times : List ℤ) (steps : ℕ) : Type 0 where
+pub record WithPlan (b : Book) (plan times : List ℤ) (steps : ℕ) : Type 0 where
   pub not_below_plan : Under plan times
-  pub not_below_floor : below_floor (floor rules) times ≡ false
-  pub bound : steps ≤ jobs * total rules
-  pub at_bound : steps ≡ jobs * total rules → AllSatisfied rules times
-  pub is_plan : (times ≡ plan) ↔ AllSatisfied rules times
+  pub not_below_floor : below_floor (floor b) times ≡ false
+  pub bound : steps ≤ step_bound b
+  pub at_bound : steps ≡ step_bound b → AllSatisfied b.rules times
+  pub is_plan : (times ≡ plan) ↔ AllSatisfied b.rules times
 
 -- "If none exists"
-pub record WithNone (jobs : ℕ) (rules : List Rule) (times : List ℤ) (steps : ℕ) : Type 0 where
-  pub violated : (number : ℕ) × (number < length rules) × (satisfied (rule_at rules number) times ≡ false)
-  pub bound : steps ≤ jobs * total rules + 1
-  pub at_bound : steps ≡ jobs * total rules + 1 → below_floor (floor rules) times ≡ true
+pub record WithNone (b : Book) (times : List ℤ) (steps : ℕ) : Type 0 where
+  pub violated : (number : ℕ) × (number < length b.rules) × (satisfied (rule_at b.rules number) times ≡ false)
+  pub bound : steps ≤ step_bound b + 1
+  pub at_bound : steps ≡ step_bound b + 1 → below_floor (floor b) times ≡ true
 
 -- the log of a list of hand steps from a fresh board with a zero tally, and the state after it
-abbrev pub log_of : ℕ → List Rule → List ℕ → List Entry
-log_of jobs rules calls = play jobs rules (initial jobs) calls
+abbrev pub log_of : Book → List ℕ → List Entry
+log_of b calls = play b (initial b) calls
 
-abbrev pub finally : ℕ → List Rule → List ℕ → State
-finally jobs rules calls = end_state (initial jobs) (log_of jobs rules calls)
+abbrev pub finally : Book → List ℕ → State
+finally b calls = end_state (initial b) (log_of b calls)
 
-pub record AnyOrder (jobs : ℕ) (rules : List Rule) (calls : List ℕ) : Type 0 where
-  pub exactly : Each (λ e. (stepped e ≡ true) ↔ Due rules e) (log_of jobs rules calls)
-  pub lowered : Each (λ e. stepped e ≡ true → Lowered (rule_at rules e.asked) e.before.times e.after.times) (log_of jobs rules calls)
-  pub others : Each (λ e. stepped e ≡ false → Unchanged e) (log_of jobs rules calls)
-  pub steps : (finally jobs rules calls).tally.steps ≡ count_steps (log_of jobs rules calls)
-  pub minutes : (finally jobs rules calls).tally.minutes ≡ sum_minutes rules (log_of jobs rules calls)
-  pub with_plan : (plan : List ℤ) → Plan jobs rules plan →
-      WithPlan jobs rules plan (finally jobs rules calls).times (count_steps (log_of jobs rules calls))
-  pub with_none : (((plan : List ℤ) × Plan jobs rules plan) → ⊥) →
-      WithNone jobs rules (finally jobs rules calls).times (count_steps (log_of jobs rules calls))
+pub record AnyOrder (b : Book) (calls : List ℕ) : Type 0 where
+  pub exactly : Each (λ e. (stepped e ≡ true) ↔ Due b e) (log_of b calls)
+  pub lowered : Each (λ e. stepped e ≡ true → Lowered (rule_at b.rules e.asked) e.before.times e.after.times) (log_of b calls)
+  pub others : Each (λ e. stepped e ≡ false → Unchanged e) (log_of b calls)
+  pub steps : (finally b calls).tally.steps ≡ count_steps (log_of b calls)
+  pub minutes : (finally b calls).tally.minutes ≡ sum_minutes b.rules (log_of b calls)
+  pub with_plan : (plan : List ℤ) → Plan b plan → WithPlan b plan (finally b calls).times (count_steps (log_of b calls))
+  pub with_none : (((plan : List ℤ) × Plan b plan) → ⊥) → WithNone b (finally b calls).times (count_steps (log_of b calls))
 
 -- any list of hand steps on a book that isn't refused
 abbrev pub Demand3 : Type 0
-Demand3 = (jobs : ℕ) (rules : List Rule) → Accepted jobs rules → (calls : List ℕ) → AnyOrder jobs rules calls
+Demand3 = (b : Book) → NotRefused b → (calls : List ℕ) → AnyOrder b calls
 
 -- Demand 2: a plan if and only if some choice of whole-number times keeps every rule, "none" in every other case
-pub record Exact (jobs : ℕ) (rules : List Rule) : Type 0 where
-  pub plan_iff : ((solve jobs rules).end ≡ planned) ↔ Satisfiable jobs rules
-  pub plan_is : (solve jobs rules).end ≡ planned → Plan jobs rules (solve jobs rules).times
-  pub none_iff : ((job : ℕ) × ((solve jobs rules).end ≡ fell job)) ↔ (Satisfiable jobs rules → ⊥)
+pub record Exact (b : Book) : Type 0 where
+  pub plan_iff : ((solve b).end ≡ planned) ↔ Satisfiable b
+  pub plan_is : (solve b).end ≡ planned → Plan b (solve b).times
+  pub none_iff : ((job : ℕ) × ((solve b).end ≡ fell job)) ↔ (Satisfiable b → ⊥)
 
 abbrev pub Demand2 : Type 0
-Demand2 = (jobs : ℕ) (rules : List Rule) → Accepted jobs rules → Exact jobs rules
+Demand2 = (b : Book) → NotRefused b → Exact b
 
 -- how the bench run goes: it ends, within the bounds, as its round-robin list of hand steps does
-pub record RunFacts (jobs : ℕ) (rules : List Rule) : Type 0 where
-  pub ends : (solve jobs rules).end ≡ unfinished → ⊥
-  pub plan_steps : (solve jobs rules).end ≡ planned → (solve jobs rules).steps ≤ jobs * total rules
-  pub none_steps : (job : ℕ) → (solve jobs rules).end ≡ fell job → (solve jobs rules).steps ≤ jobs * total rules + 1
-  pub fallen : (job : ℕ) → (solve jobs rules).end ≡ fell job → (job < jobs) × (time_at (solve jobs rules).times job <ℤ floor rules)
-  pub times_are : (finally jobs rules (rounds (pass_bound jobs rules) (length rules))).times ≡ (solve jobs rules).times
-  pub same_steps : (finally jobs rules (rounds (pass_bound jobs rules) (length rules))).tally.steps ≡ (solve jobs rules).steps
+pub record RunFacts (b : Book) : Type 0 where
+  pub ends : (solve b).end ≡ unfinished → ⊥
+  pub plan_steps : (solve b).end ≡ planned → (solve b).steps ≤ step_bound b
+  pub none_steps : (job : ℕ) → (solve b).end ≡ fell job → (solve b).steps ≤ step_bound b + 1
+  pub fallen : (job : ℕ) → (solve b).end ≡ fell job → (job < b.jobs) × (time_at (solve b).times job <ℤ floor b)
+  pub times_are : (finally b (rounds (pass_bound b) (length b.rules))).times ≡ (solve b).times
+  pub same_steps : (finally b (rounds (pass_bound b) (length b.rules))).tally.steps ≡ (solve b).steps
 
--- what document 01 says of plans
-pub record PlanFacts (jobs : ℕ) (rules : List Rule) : Type 0 where
-  pub plan_iff_model : ((plan : List ℤ) × Plan jobs rules plan) ↔ Satisfiable jobs rules
-  pub unique : (p q : List ℤ) → Plan jobs rules p → Plan jobs rules q → p ≡ q
-  pub at_zero : (plan : List ℤ) → Plan jobs rules plan → (job : ℕ) × (job < jobs) × (time_at plan job ≡ pos 0)
+-- what the documents say of plans
+pub record PlanFacts (b : Book) : Type 0 where
+  pub plan_iff_model : ((plan : List ℤ) × Plan b plan) ↔ Satisfiable b
+  pub unique : (p q : List ℤ) → Plan b p → Plan b q → p ≡ q
+  pub at_latest : (plan : List ℤ) → Plan b plan → (job : ℕ) × (job < b.jobs) × (time_at plan job ≡ time_at b.latest job)
+
+-- what document 01 has of a book in which every latest time is zero: the floor −K, legal times from −2K to 0, and the bound n × K
+pub record AtZero (jobs : ℕ) (rules : List Rule) : Type 0 where
+  pub floor_is : floor (zeros jobs rules) ≡ minus (total rules)
+  pub lowest_is : lowest (zeros jobs rules) ≡ minus (2 * total rules)
+  pub bound_is : step_bound (zeros jobs rules) ≡ jobs * total rules

@@ -1,9 +1,9 @@
--- The ★ examples of document 01: one table, and one test over it.
+-- The ★ examples of document 01, and three with latest times of their own: one table, and one test over it.
 use Rattle.std.specs.Prelude.{Bool, true, false, ◌&&◌, List, [], ◌∷◌, ℕ, eqb, ℤ, pos}
 use Rattle.std.specs.Bool.{beq}
 use Rattle.maxatom.specs.Rule.{satisfied, tight, eq_z}
 use Rattle.maxatom.specs.Class.{class_of}
-use Rattle.maxatom.specs.Book.{total, minus}
+use Rattle.maxatom.specs.Book.{Book, book, zeros, total, minus}
 use Rattle.maxatom.specs.Runs.{End, planned, fell, unfinished}
 use Rattle.maxatom.specs.declared.Rule.{Rule}
 use Rattle.maxatom.specs.declared.Class.{Class}
@@ -25,8 +25,7 @@ pub data Claim : Type 0 where
   satisfied_is : ℕ → List ℤ → Bool → Claim
 
 pub record Example : Type 0 where
-  pub jobs : ℕ
-  pub rules : List Rule
+  pub book : Book
   pub claims : List Claim
 
 -- (x, y, k → z)
@@ -44,21 +43,29 @@ plan_b = pos 0 ∷ minus 10 ∷ minus 11 ∷ minus 11 ∷ []
 
 abbrev pub stars : List Example
 stars =
-    record { jobs = 1; rules = []; claims = plan_said (pos 0 ∷ []) ∷ steps_are 0 ∷ [] }
-    ∷ record { jobs = 4; rules = example_b; claims = plan_said plan_b ∷ steps_are 23 ∷ total_is 36 ∷ tight_is 0 plan_b true ∷ tight_is 1 plan_b true ∷ tight_is 2 plan_b true ∷ tight_is 3 plan_b false ∷ [] }
-    ∷ record { jobs = 4; rules = rule 0 0 (minus 10) 1 ∷ rule 3 3 (pos 0) 2 ∷ rule 1 2 (minus 1) 3 ∷ rule 1 0 (pos 25) 3 ∷ rule 1 2 (pos 9) 0 ∷ []; claims = none_said ∷ [] }
-    ∷ record { jobs = 1; rules = rule 0 0 (minus 1) 0 ∷ []; claims = none_at 0 ∷ steps_are 2 ∷ total_is 1 ∷ [] }
-    ∷ record { jobs = 1; rules = rule 0 0 (pos 0) 0 ∷ []; claims = class_is 0 Tautology ∷ plan_said (pos 0 ∷ []) ∷ steps_are 0 ∷ [] }
-    ∷ record { jobs = 2; rules = rule 0 1 (minus 1) 0 ∷ []; claims = class_is 0 Difference ∷ plan_said (minus 1 ∷ pos 0 ∷ []) ∷ steps_are 1 ∷ [] }
-    ∷ record { jobs = 2; rules = rule 0 0 (minus 5) 1 ∷ []; claims = plan_said (pos 0 ∷ minus 5 ∷ []) ∷ steps_are 1 ∷ [] }
-    ∷ record { jobs = 2; rules = rule 0 0 (pos 5) 1 ∷ []; claims = plan_said (pos 0 ∷ pos 0 ∷ []) ∷ tight_is 0 (pos 0 ∷ pos 0 ∷ []) false ∷ [] }
-    ∷ record { jobs = 2; rules = rule 0 0 (minus 1) 1 ∷ rule 1 1 (pos 0) 0 ∷ []; claims = none_at 1 ∷ steps_are 3 ∷ [] }
-    ∷ record { jobs = 2; rules = rule 0 0 (minus 1) 1 ∷ rule 1 1 (pos 1) 0 ∷ []; claims = plan_said (pos 0 ∷ minus 1 ∷ []) ∷ steps_are 1 ∷ [] }
+    record { book = zeros 1 []; claims = plan_said (pos 0 ∷ []) ∷ steps_are 0 ∷ [] }
+    ∷ record { book = zeros 4 example_b; claims = plan_said plan_b ∷ steps_are 23 ∷ total_is 36 ∷ tight_is 0 plan_b true ∷ tight_is 1 plan_b true ∷ tight_is 2 plan_b true ∷ tight_is 3 plan_b false ∷ [] }
+    ∷ record { book = zeros 4 (rule 0 0 (minus 10) 1 ∷ rule 3 3 (pos 0) 2 ∷ rule 1 2 (minus 1) 3 ∷ rule 1 0 (pos 25) 3 ∷ rule 1 2 (pos 9) 0 ∷ []); claims = none_said ∷ [] }
+    ∷ record { book = zeros 1 (rule 0 0 (minus 1) 0 ∷ []); claims = none_at 0 ∷ steps_are 2 ∷ total_is 1 ∷ [] }
+    ∷ record { book = zeros 1 (rule 0 0 (pos 0) 0 ∷ []); claims = class_is 0 Tautology ∷ plan_said (pos 0 ∷ []) ∷ steps_are 0 ∷ [] }
+    ∷ record { book = zeros 2 (rule 0 1 (minus 1) 0 ∷ []); claims = class_is 0 Difference ∷ plan_said (minus 1 ∷ pos 0 ∷ []) ∷ steps_are 1 ∷ [] }
+    ∷ record { book = zeros 2 (rule 0 0 (minus 5) 1 ∷ []); claims = plan_said (pos 0 ∷ minus 5 ∷ []) ∷ steps_are 1 ∷ [] }
+    ∷ record { book = zeros 2 (rule 0 0 (pos 5) 1 ∷ []); claims = plan_said (pos 0 ∷ pos 0 ∷ []) ∷ tight_is 0 (pos 0 ∷ pos 0 ∷ []) false ∷ [] }
+    ∷ record { book = zeros 2 (rule 0 0 (minus 1) 1 ∷ rule 1 1 (pos 0) 0 ∷ []); claims = none_at 1 ∷ steps_are 3 ∷ [] }
+    ∷ record { book = zeros 2 (rule 0 0 (minus 1) 1 ∷ rule 1 1 (pos 1) 0 ∷ []); claims = plan_said (pos 0 ∷ minus 1 ∷ []) ∷ steps_are 1 ∷ [] }
     ∷ record {
-      jobs = 2;
-      rules = rule 0 1 (minus 1) 0 ∷ rule 0 0 (minus 3) 1 ∷ [];
+      book = zeros 2 (rule 0 1 (minus 1) 0 ∷ rule 0 0 (minus 3) 1 ∷ []);
       claims = step_leaves (state (pos 0 ∷ minus 3 ∷ []) 1 3) 0 (state (minus 1 ∷ minus 3 ∷ []) 2 4) ∷ satisfied_is 0 (minus 1 ∷ minus 3 ∷ []) false ∷ [];
     }
+    ∷ record {
+      book = book 2 (minus 3 ∷ minus 5 ∷ []) (rule 0 0 (minus 4) 1 ∷ []);
+      claims = plan_said (minus 3 ∷ minus 7 ∷ []) ∷ steps_are 1 ∷ [];
+    }
+    ∷ record {
+      book = book 2 (minus 2 ∷ pos 0 ∷ []) (rule 0 0 (minus 1) 1 ∷ rule 1 1 (pos 0) 0 ∷ []);
+      claims = none_at 1 ∷ steps_are 3 ∷ [];
+    }
+    ∷ record { book = book 2 (pos 0 ∷ minus 60 ∷ []) []; claims = plan_said (pos 0 ∷ minus 60 ∷ []) ∷ steps_are 0 ∷ [] }
     ∷ []
 
 -- the tests that the claims stand for
@@ -90,24 +97,24 @@ class_number Contradiction = 1
 class_number Difference = 2
 class_number Disjunctive = 3
 
-unfoldable pub holds : ℕ → List Rule → Claim → Bool
-holds jobs rules (plan_said times) = let run = solve jobs rules in same_end run.end planned && same_times run.times times
-holds jobs rules none_said = is_fall (solve jobs rules).end
-holds jobs rules (none_at job) = same_end (solve jobs rules).end (fell job)
-holds jobs rules (steps_are n) = eqb (solve jobs rules).steps n
-holds jobs rules (total_is n) = eqb (total rules) n
-holds jobs rules (class_is number c) = eqb (class_number (class_of (rule_at rules number))) (class_number c)
-holds jobs rules (tight_is number times b) = beq (tight (rule_at rules number) times) b
-holds jobs rules (step_leaves before number after) =
-    let called = step_call jobs rules before number in
+unfoldable pub holds : Book → Claim → Bool
+holds b (plan_said times) = let run = solve b in same_end run.end planned && same_times run.times times
+holds b none_said = is_fall (solve b).end
+holds b (none_at job) = same_end (solve b).end (fell job)
+holds b (steps_are n) = eqb (solve b).steps n
+holds b (total_is n) = eqb (total b.rules) n
+holds b (class_is number c) = eqb (class_number (class_of (rule_at b.rules number))) (class_number c)
+holds b (tight_is number times said) = beq (tight (rule_at b.rules number) times) said
+holds b (step_leaves before number after) =
+    let called = step_call b before number in
     accepts called.said && same_times called.after.times after.times
     && eqb called.after.tally.steps after.tally.steps && eqb called.after.tally.minutes after.tally.minutes
-holds jobs rules (satisfied_is number times b) = beq (satisfied (rule_at rules number) times) b
+holds b (satisfied_is number times said) = beq (satisfied (rule_at b.rules number) times) said
 
-unfoldable pub all_hold : ℕ → List Rule → List Claim → Bool
-all_hold jobs rules [] = true
-all_hold jobs rules (c ∷ claims) = holds jobs rules c && all_hold jobs rules claims
+unfoldable pub all_hold : Book → List Claim → Bool
+all_hold b [] = true
+all_hold b (c ∷ claims) = holds b c && all_hold b claims
 
 unfoldable pub right : List Example → Bool
 right [] = true
-right (e ∷ examples) = all_hold e.jobs e.rules e.claims && right examples
+right (e ∷ examples) = all_hold e.book e.claims && right examples

@@ -8,3 +8,4 @@ pub mod Replies
 pub mod Demands
 pub mod Examples
 pub mod Demand1
+pub mod Inner

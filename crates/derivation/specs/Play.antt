@@ -1,6 +1,7 @@
 -- A list of hand steps, each from the state that the one before left.
 use Rattle.std.specs.Prelude.{Bool, cond, List, [], ◌∷◌, ◌++◌, ℕ, zero, suc, ◌+◌}
 use Rattle.maxatom.specs.Rule.{time_at, minutes_off}
+use Rattle.maxatom.specs.Book.{Book}
 use Rattle.maxatom.specs.declared.Rule.{Rule}
 use Rattle.derivation.specs.Refusals.{Reply, accepts}
 use Rattle.derivation.specs.Step.{State, rule_at, step_call}
@@ -12,11 +13,11 @@ pub record Entry : Type 0 where
   pub before : State
   pub after : State
 
-unfoldable pub play : ℕ → List Rule → State → List ℕ → List Entry
-play jobs rules state [] = []
-play jobs rules state (number ∷ calls) =
-    let called = step_call jobs rules state number in
-    record { asked = number; said = called.said; before = state; after = called.after } ∷ play jobs rules called.after calls
+unfoldable pub play : Book → State → List ℕ → List Entry
+play b state [] = []
+play b state (number ∷ calls) =
+    let called = step_call b state number in
+    record { asked = number; said = called.said; before = state; after = called.after } ∷ play b called.after calls
 
 -- the state after the list
 unfoldable pub end_state : State → List Entry → State

@@ -1,7 +1,7 @@
--- Refusals: document 01's two lists, in their order, each with its number and place.
-use Rattle.std.specs.Prelude.{Bool, true, false, cond, not, ◌||◌, List, [], ◌∷◌, ◌++◌, ℕ, ◌+◌, eqb, leb, ltb, length, ℤ, pos}
+-- Refusals: the documents' two lists, in their order, each with its number and place.
+use Rattle.std.specs.Prelude.{◌≡◌, Bool, true, false, cond, not, ◌||◌, List, [], ◌∷◌, ◌++◌, ℕ, ◌+◌, eqb, leb, ltb, length, ℤ, pos}
 use Rattle.std.specs.Int.Signed.{lt_z}
-use Rattle.maxatom.specs.Book.{minus}
+use Rattle.maxatom.specs.Book.{most_jobs, most_rules, most_minutes, Book, minus}
 use Rattle.maxatom.specs.declared.Rule.{Rule}
 
 -- what a call answers: turned down with a number and a place, or the answer
@@ -41,11 +41,11 @@ lent (answer a) before after = after
 
 -- 4: job count outside 1 to 256
 abbrev pub jobs_check : ℕ → Check
-jobs_check jobs = check (ltb jobs 1 || ltb 256 jobs) 4 0
+jobs_check jobs = check (ltb jobs 1 || ltb most_jobs jobs) 4 0
 
 -- 5: a rule past the 1,024th
 abbrev pub count_check : ℕ → Check
-count_check count = check (ltb 1024 count) 5 0
+count_check count = check (ltb most_rules count) 5 0
 
 -- 6: a job number of n or more
 unfoldable pub job_outside : ℕ → Rule → Bool
@@ -53,7 +53,7 @@ job_outside jobs r = leb jobs r.x || (leb jobs r.y || leb jobs r.z)
 
 -- 7: offset outside −20,160 to 20,160
 unfoldable pub offset_outside : Rule → Bool
-offset_outside r = lt_z r.k (minus 20160) || lt_z (pos 20160) r.k
+offset_outside r = lt_z r.k (minus most_minutes) || lt_z (pos most_minutes) r.k
 
 -- for each rule, 6 before 7; `at` is the first rule's number
 unfoldable pub rule_checks : ℕ → ℕ → List Rule → List Check
@@ -64,13 +64,34 @@ rule_checks jobs at (r ∷ rules) = check (job_outside jobs r) 6 at ∷ check (o
 unfoldable pub table_checks : ℕ → List Rule → List Check
 table_checks jobs rules = jobs_check jobs ∷ count_check (length rules) ∷ rule_checks jobs 0 rules
 
--- 21: board or run buffer not n times long
+-- 8: a latest time outside −20,160 to 0
+unfoldable pub latest_outside : ℤ → Bool
+latest_outside t = lt_z t (minus most_minutes) || lt_z (pos 0) t
+
+-- for each time of a list; `at` is the first job's number
+unfoldable pub time_checks : ℕ → List ℤ → List Check
+time_checks at [] = []
+time_checks at (t ∷ latest) = check (latest_outside t) 8 at ∷ time_checks (at + 1) latest
+
+-- 21: a list, a board or a run buffer not n times long
 abbrev pub size_check : ℕ → List ℤ → Check
 size_check jobs times = check (not (eqb (length times) jobs)) 21 0
 
--- a table with n times
-unfoldable pub times_checks : ℕ → List Rule → List ℤ → List Check
-times_checks jobs rules times = table_checks jobs rules ++ (size_check jobs times ∷ [])
+-- a list not n times long gets 21, its times unread; else a time out of bounds gets 8 with the first such job
+unfoldable pub latest_checks : ℕ → List ℤ → List Check
+latest_checks jobs latest = cond (eqb (length latest) jobs) (time_checks 0 latest) (size_check jobs latest ∷ [])
+
+-- a book: its table, then its latest times
+unfoldable pub book_checks : Book → List Check
+book_checks b = table_checks b.jobs b.rules ++ latest_checks b.jobs b.latest
+
+-- a book that isn't refused
+abbrev pub NotRefused : Book → Type 0
+NotRefused b = verdict (book_checks b) ≡ answer tt
+
+-- a book with n times
+unfoldable pub times_checks : Book → List ℤ → List Check
+times_checks b times = book_checks b ++ (size_check b.jobs times ∷ [])
 
 -- 24: no rule of that number
 abbrev pub rule_check : ℕ → ℕ → Check

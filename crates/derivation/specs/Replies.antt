@@ -1,12 +1,12 @@
 -- The answers of the public calls, read as replies: a number and a place, or a value, for every case.
-use Rattle.std.specs.Prelude.{◌≡◌, Bool, List, ℕ, ◌+◌, ◌*◌, ◌≤◌, ℤ, Option, Some, None, Result, Ok, Err, ⊤}
-use Rattle.maxatom.specs.Book.{Satisfiable, Plan, total}
-use Rattle.maxatom.specs.declared.Rule.{Rule}
-use Rattle.maxatom.specs.Runs.{Run, planned, fell}
+use Rattle.std.specs.Prelude.{◌≡◌, Bool, List, ℕ, ◌+◌, ◌≤◌, ℤ, Option, Some, None, Result, Ok, Err, ⊤}
+use Rattle.maxatom.specs.Book.{Book, Satisfiable, Plan}
+use Rattle.maxatom.specs.Runs.{planned, fell}
 use Rattle.derivation.specs.Refusals.{Reply, refused, answer}
 use Rattle.derivation.specs.Faults.{number_of}
 use Rattle.derivation.specs.Step.{State}
-use Rattle.derivation.specs.Calls.{ModelCheck, satisfies, violates, Answer, answer_of, run_reply, run_times}
+use Rattle.derivation.specs.Calls.{ModelCheck, satisfies, violates, Answer, run_reply, run_times}
+use Rattle.derivation.specs.Run.{step_bound}
 use Rattle.derivation.specs.declared.Tally.{Tally}
 use Rattle.derivation.specs.declared.Refusal.{Refusal}
 use Rattle.derivation.specs.declared.Counts.{Counts}
@@ -51,17 +51,12 @@ abbrev pub state_of : List ℤ → Tally → State
 state_of times tally = record { times = times; tally = tally }
 
 -- what plan and none mean: the times are then the plan, and no choice of times keeps every rule
-pub record Meaning (jobs : ℕ) (rules : List Rule) (r : Result Solved Refusal) (times : List ℤ) : Type 0 where
-  pub plan : (steps : ℕ) → r ≡ Ok (Solve.Plan steps) → Plan jobs rules times × (steps ≤ jobs * total rules)
-  pub none : (steps job : ℕ) → r ≡ Ok (Solve.None steps job) → (Satisfiable jobs rules → ⊥) × (steps ≤ jobs * total rules + 1)
-
--- a run's answer, and the times that it left
-pub record SolvedAs (run : Run) (r : Solved) (times : List ℤ) : Type 0 where
-  pub said : solved_answer r ≡ answer_of run
-  pub left : times ≡ run.times
+pub record Meaning (b : Book) (r : Result Solved Refusal) (times : List ℤ) : Type 0 where
+  pub plan : (steps : ℕ) → r ≡ Ok (Solve.Plan steps) → Plan b times × (steps ≤ step_bound b)
+  pub none : (steps job : ℕ) → r ≡ Ok (Solve.None steps job) → (Satisfiable b → ⊥) × (steps ≤ step_bound b + 1)
 
 -- a bench run's reply and the times it left: the equations, and beside them what they mean
-pub record SolvedCall (jobs : ℕ) (rules : List Rule) (buffer : List ℤ) (r : Result Solved Refusal) (times : List ℤ) : Type 0 where
-  pub said : solved_reply r ≡ run_reply jobs rules buffer
-  pub left : times ≡ run_times jobs rules buffer
-  pub means : Meaning jobs rules r times
+pub record SolvedCall (b : Book) (buffer : List ℤ) (r : Result Solved Refusal) (times : List ℤ) : Type 0 where
+  pub said : solved_reply r ≡ run_reply b buffer
+  pub left : times ≡ run_times b buffer
+  pub means : Meaning b r times

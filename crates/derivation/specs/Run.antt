@@ -1,15 +1,18 @@
 -- The bench run: passes over the rules from a fresh board.
-use Rattle.std.specs.Prelude.{List, ℕ, ◌+◌, ◌*◌}
-use Rattle.maxatom.specs.Book.{total, floor}
-use Rattle.maxatom.specs.declared.Rule.{Rule}
+use Rattle.std.specs.Prelude.{ℕ, ◌+◌}
+use Rattle.maxatom.specs.Book.{Book, floor}
 use Rattle.maxatom.specs.Clauses.{clauses_of}
-use Rattle.maxatom.specs.Runs.{Run, run}
+use Rattle.maxatom.specs.Runs.{Run, room, run}
 use Rattle.derivation.specs.Step.{initial}
 
--- n × K + 1: the room of a fresh board above the floor, and one more (`room_zero`), which are the most passes that `solve` makes
-abbrev pub pass_bound : ℕ → List Rule → ℕ
-pass_bound jobs rules = jobs * total rules + 1
+-- the bound of steps: the sum, over jobs, of latest time minus floor
+abbrev pub step_bound : Book → ℕ
+step_bound b = room (floor b) b.latest
+
+-- the most passes that `solve` makes, each of which but the last has a step
+abbrev pub pass_bound : Book → ℕ
+pass_bound b = step_bound b + 1
 
 -- bench run
-unfoldable pub solve : ℕ → List Rule → Run
-solve jobs rules = run (floor rules) (clauses_of rules) (initial jobs).times
+unfoldable pub solve : Book → Run
+solve b = run (floor b) (clauses_of b.rules) (initial b).times

@@ -1,8 +1,8 @@
 -- The hand step, on any arguments.
-use Rattle.std.specs.Prelude.{Bool, true, false, not, ◌&&◌, ◌||◌, List, [], ◌∷◌, ◌++◌, ℕ, ◌+◌, ◌*◌, leb, length, get_or, set, replicate, ℤ, pos, neg_ℤ, ◌+ℤ◌}
+use Rattle.std.specs.Prelude.{Bool, true, false, not, ◌&&◌, ◌||◌, List, [], ◌∷◌, ◌++◌, ℕ, ◌+◌, ◌*◌, leb, length, get_or, set, ℤ, pos, ◌+ℤ◌, ◌-ℤ◌}
 use Rattle.std.specs.Int.Signed.{le_z, lt_z}
 use Rattle.maxatom.specs.Rule.{time_at, left_side, satisfied, eq_z, minutes_off}
-use Rattle.maxatom.specs.Book.{total, floor, minus}
+use Rattle.maxatom.specs.Book.{Book, total, smallest, floor}
 use Rattle.maxatom.specs.declared.Rule.{Rule}
 use Rattle.derivation.specs.Refusals.{Reply, Check, check, verdict, lent, times_checks, rule_check}
 use Rattle.derivation.specs.declared.Tally.{Tally}
@@ -12,9 +12,9 @@ pub record State : Type 0 where
   pub times : List ℤ
   pub tally : Tally
 
--- fresh board, zero tally
-abbrev pub initial : ℕ → State
-initial jobs = record { times = replicate jobs (pos 0); tally = record { steps = 0; minutes = 0 } }
+-- fresh board, which holds the latest times, and zero tally
+abbrev pub initial : Book → State
+initial b = record { times = b.latest; tally = record { steps = 0; minutes = 0 } }
 
 -- the rule of a number
 abbrev pub no_rule : Rule
@@ -23,10 +23,15 @@ no_rule = record { x = 0; y = 0; z = 0; k = pos 0 }
 abbrev pub rule_at : List Rule → ℕ → Rule
 rule_at rules number = get_or rules number no_rule
 
--- legal: each time is from −2K to 0
-unfoldable pub in_range : ℕ → List ℤ → Bool
-in_range k [] = true
-in_range k (t ∷ times) = le_z (minus (2 * k)) t && le_z t (pos 0) && in_range k times
+-- the lowest legal time: the smallest latest time minus 2K
+abbrev pub lowest : Book → ℤ
+lowest b = smallest b.latest -ℤ pos (2 * total b.rules)
+
+-- legal: each time is from the lowest to the job's own latest time
+unfoldable pub in_range : ℤ → List ℤ → List ℤ → Bool
+in_range low [] times = true
+in_range low (l ∷ latest) [] = true
+in_range low (l ∷ latest) (t ∷ times) = le_z low t && le_z t l && in_range low latest times
 
 -- shows none: some time is below the floor
 unfoldable pub below_floor : ℤ → List ℤ → Bool
@@ -37,28 +42,28 @@ unfoldable pub sum_z : List ℤ → ℤ
 sum_z [] = pos 0
 sum_z (t ∷ times) = t +ℤ sum_z times
 
--- fits: the minutes are minus the sum of the times, and the steps are no more than the minutes
-unfoldable pub fits : Tally → List ℤ → Bool
-fits tally times = eq_z (pos tally.minutes) (neg_ℤ (sum_z times)) && leb tally.steps tally.minutes
+-- fits: the minutes are the sum of the latest times minus that of the times, and the steps are no more than the minutes
+unfoldable pub fits : List ℤ → Tally → List ℤ → Bool
+fits latest tally times = eq_z (pos tally.minutes) (sum_z latest -ℤ sum_z times) && leb tally.steps tally.minutes
 
 -- the refusals of a hand step for the rule it names
-abbrev pub rule_step_checks : List Rule → State → ℕ → List Check
-rule_step_checks rules state number =
-    rule_check (length rules) number
-    ∷ check (below_floor (floor rules) state.times) 25 0
-    ∷ check (satisfied (rule_at rules number) state.times) 26 0
+abbrev pub rule_step_checks : Book → State → ℕ → List Check
+rule_step_checks b state number =
+    rule_check (length b.rules) number
+    ∷ check (below_floor (floor b) state.times) 25 0
+    ∷ check (satisfied (rule_at b.rules number) state.times) 26 0
     ∷ []
 
 -- for the board and the tally, and then the rule
-abbrev pub held_checks : List Rule → State → ℕ → List Check
-held_checks rules state number =
-    check (not (in_range (total rules) state.times)) 22 0
-    ∷ check (not (fits state.tally state.times)) 23 0
-    ∷ rule_step_checks rules state number
+abbrev pub held_checks : Book → State → ℕ → List Check
+held_checks b state number =
+    check (not (in_range (lowest b) b.latest state.times)) 22 0
+    ∷ check (not (fits b.latest state.tally state.times)) 23 0
+    ∷ rule_step_checks b state number
 
--- for the table first
-unfoldable pub step_checks : ℕ → List Rule → State → ℕ → List Check
-step_checks jobs rules state number = times_checks jobs rules state.times ++ held_checks rules state number
+-- for the table and the latest times first
+unfoldable pub step_checks : Book → State → ℕ → List Check
+step_checks b state number = times_checks b state.times ++ held_checks b state number
 
 -- sets z's time to the left side, and brings the tally up to date
 unfoldable pub step_on : Rule → State → State
@@ -79,5 +84,5 @@ unfoldable pub called_by : List Check → State → State → Called
 called_by checks before after = let said = verdict checks in record { said = said; after = lent said before after }
 
 -- hand step
-unfoldable pub step_call : ℕ → List Rule → State → ℕ → Called
-step_call jobs rules state number = called_by (step_checks jobs rules state number) state (step_on (rule_at rules number) state)
+unfoldable pub step_call : Book → State → ℕ → Called
+step_call b state number = called_by (step_checks b state number) state (step_on (rule_at b.rules number) state)

@@ -29,6 +29,10 @@ pub enum Fault {
     JobNumber,
     // An offset, or hours, outside the bounds (7).
     Offset,
+    // A latest time is outside −20,160 to 0 (8).
+    LatestTime,
+    // A second latest time for one job (9).
+    SecondLatest,
     // What is lent has the wrong length (21).
     Length,
     // The board is not legal (22).
@@ -54,6 +58,8 @@ impl From<Fault> for u8 {
             Fault::RuleCount => 5,
             Fault::JobNumber => 6,
             Fault::Offset => 7,
+            Fault::LatestTime => 8,
+            Fault::SecondLatest => 9,
             Fault::Length => 21,
             Fault::IllegalBoard => 22,
             Fault::TallyDiffers => 23,

@@ -1,4 +1,4 @@
-// The scope's examples as book files.
+// The examples as book files: the scope's, and P, Q and R, which have latest times other than zero.
 
 #![tactic(auto)]
 
@@ -28,3 +28,47 @@ pub const J: &[u8] =
 
 pub const L: &[u8] =
     b"BK\x02\x00RU\x00\x00\x01\x00\x00\x00\xff\xff\xff\xffRU\x00\x00\x00\x00\x01\x00\xfd\xff\xff\xff";
+
+// No job of the plan stands at zero.
+pub const P: &[u8] =
+    b"BK\x02\x00CE\x00\x00\xfd\xff\xff\xffCE\x01\x00\xfb\xff\xff\xffRU\x00\x00\x00\x00\x01\x00\xfc\xff\xff\xff";
+
+// None.
+pub const Q: &[u8] =
+    b"BK\x02\x00CE\x00\x00\xfe\xff\xff\xffRU\x00\x00\x00\x00\x01\x00\xff\xff\xff\xffRU\x01\x00\x01\x00\x00\x00\x00\x00\x00\x00";
+
+// A latest time alone sets a job.
+pub const R: &[u8] = b"BK\x02\x00CE\x01\x00\xc4\xff\xff\xff";
+
+// A latest time of minute −20,160, for the last of two jobs.
+pub const EARLIEST: &[u8] = b"BK\x02\x00CE\x01\x00\x40\xb1\xff\xff";
+
+// Files with latest times at and past the limits, each under its name.
+pub const LATEST_LIMITS: [(&str, &[u8]); 11] = [
+    ("minute -20160", EARLIEST),
+    ("minute -20161", b"BK\x02\x00CE\x01\x00\x3f\xb1\xff\xff"),
+    ("minute 0", b"BK\x02\x00CE\x01\x00\x00\x00\x00\x00"),
+    ("minute 1", b"BK\x02\x00CE\x01\x00\x01\x00\x00\x00"),
+    ("job 2 of 2", b"BK\x02\x00CE\x02\x00\x00\x00\x00\x00"),
+    (
+        "job 2 of 2, minute 1",
+        b"BK\x02\x00CE\x02\x00\x01\x00\x00\x00",
+    ),
+    (
+        "a second",
+        b"BK\x02\x00CE\x01\x00\xff\xff\xff\xffCE\x01\x00\xff\xff\xff\xff",
+    ),
+    (
+        "a second, minute 1",
+        b"BK\x02\x00CE\x01\x00\xff\xff\xff\xffCE\x01\x00\x01\x00\x00\x00",
+    ),
+    (
+        "after a rule",
+        b"BK\x02\x00RU\x00\x00\x00\x00\x01\x00\xff\xff\xff\xffCE\x01\x00\xff\xff\xff\xff",
+    ),
+    (
+        "after a rule, cut off",
+        b"BK\x02\x00RU\x00\x00\x00\x00\x01\x00\xff\xff\xff\xffCE",
+    ),
+    ("before the head", b"CE\x01\x00\xff\xff\xff\xffBK\x02\x00"),
+];

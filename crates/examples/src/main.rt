@@ -1,4 +1,4 @@
-// The examples of the scope, at run time: the report of each book; the hand steps of example L; and the records of B by number.
+// The examples, at run time: the report of each book; the hand steps of example L; and the records of B and of P by number.
 
 #![tactic(auto)]
 
@@ -30,11 +30,12 @@ fn show_record(rt: &impl Print, file: &[u8], number: usize) -> io::Result<()> {
 fn hand_step(
     rt: &impl Print,
     rules: &[Rule],
+    latest: &[i32],
     times: &mut [i32],
     tally: &mut Tally,
     number: usize,
 ) -> io::Result<()> {
-    if step(times.len(), rules, times, tally, number).is_err() {
+    if step(times.len(), rules, latest, times, tally, number).is_err() {
         println!(rt; "REFUSED")?;
     }
     print!(rt; "BOARD")?;
@@ -69,14 +70,15 @@ fn hand_steps(rt: &impl Print) -> io::Result<()> {
             k: -3,
         },
     ];
-    let mut times = [0, 0];
+    let latest = [0, 0];
+    let mut times = latest;
     let mut tally = Tally {
         steps: 0,
         minutes: 0,
     };
-    hand_step(rt, &rules, &mut times, &mut tally, 1)?;
-    hand_step(rt, &rules, &mut times, &mut tally, 0)?;
-    show_violated(rt, first_violated(2, &rules, &times))
+    hand_step(rt, &rules, &latest, &mut times, &mut tally, 1)?;
+    hand_step(rt, &rules, &latest, &mut times, &mut tally, 0)?;
+    show_violated(rt, first_violated(2, &rules, &latest, &times))
 }
 
 fn main(rt: HostRuntime) -> io::Result<()> {
@@ -91,6 +93,9 @@ fn main(rt: HostRuntime) -> io::Result<()> {
         ("H", example_books::H),
         ("I", example_books::I),
         ("J", example_books::J),
+        ("P", example_books::P),
+        ("Q", example_books::Q),
+        ("R", example_books::R),
     ] {
         show(&rt, name, file)?;
     }
@@ -99,6 +104,10 @@ fn main(rt: HostRuntime) -> io::Result<()> {
     println!(rt; "B")?;
     for number in 0..5 {
         show_record(&rt, example_books::B, number)?;
+    }
+    println!(rt; "P")?;
+    for number in 0..2 {
+        show_record(&rt, example_books::P, number)?;
     }
     Ok(())
 }

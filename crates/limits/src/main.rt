@@ -20,6 +20,13 @@ fn rule(z: u16, k: u32) -> [u8; 12] {
     [b'R', b'U', 0, 0, 0, 0, a, b, c, d, e, f]
 }
 
+// CE, the job, and the minute by its 32 bits.
+fn latest(job: u16, minute: u32) -> [u8; 8] {
+    let [a, b] = job.to_le_bytes();
+    let [c, d, e, f] = minute.to_le_bytes();
+    [b'C', b'E', a, b, c, d, e, f]
+}
+
 // HR, the jobs 0, 0 and 0, and the hours by their 16 bits.
 fn hours(bits: u16) -> [u8; 10] {
     let [a, b] = bits.to_le_bytes();
@@ -41,7 +48,8 @@ fn show(rt: &impl Print, file: &[u8]) -> io::Result<()> {
         z: 0,
         k: 0,
     }; 1024];
-    match read_book(file, &mut rules) {
+    let mut times = [0; 256];
+    match read_book(file, &mut rules, &mut times) {
         Ok(counts) => println!(rt; "BOOK {} {}", counts.jobs, counts.rules),
         Err(refusal) => refused(rt, refusal),
     }
@@ -52,22 +60,28 @@ fn with_jobs(rt: &impl Print, jobs: u16) -> io::Result<()> {
     show(rt, &book(jobs))
 }
 
-fn with_rules(rt: &impl Print, count: usize) -> io::Result<()>
-    requires { count ≤ 1025 }
+// A book of 256 jobs: so many latest times of −20,160, from job 0 on and past the last job from job 0 again, and so many rules.
+fn with_records(rt: &impl Print, times: usize, rules: usize) -> io::Result<()>
+    requires { (times ≤ 257) × (rules ≤ 1025) }
 {
-    print!(rt; "rules {count}: ")?;
+    print!(rt; "latest times {times}, rules {rules}: ")?;
     // An array, and its first places: no file of a case is longer, and nothing can run out of memory.
-    let mut file = [0; 12304];
-    file[..4].copy_from_slice(&book(1));
-    for i in 0..count {
-        let at = 4 + i * 12;
+    let mut file = [0; 14360];
+    file[..4].copy_from_slice(&book(256));
+    for i in 0..times {
+        let at = 4 + i * 8;
+        file[at..at + 8].copy_from_slice(&latest((i % 256) as u16, 4294947136));
+    }
+    let begin = 4 + times * 8;
+    for i in 0..rules {
+        let at = begin + i * 12;
         file[at..at + 12].copy_from_slice(&rule(0, 0));
     }
-    show(rt, &file[..4 + count * 12])
+    show(rt, &file[..begin + rules * 12])
 }
 
-// A book of one rule, by the rule's record.
-fn one_rule(rt: &impl Print, jobs: u16, record: &[u8]) -> io::Result<()>
+// A book of one record behind the head.
+fn one_record(rt: &impl Print, jobs: u16, record: &[u8]) -> io::Result<()>
     requires { length record.now ≤ 12 }
 {
     let mut file = [0; 16];
@@ -80,18 +94,33 @@ fn one_rule(rt: &impl Print, jobs: u16, record: &[u8]) -> io::Result<()>
 // An offset by its 32 bits.
 fn with_offset(rt: &impl Print, bits: u32) -> io::Result<()> {
     print!(rt; "offset bits {bits}: ")?;
-    one_rule(rt, 1, &rule(0, bits))
+    one_record(rt, 1, &rule(0, bits))
 }
 
 // Hours by their 16 bits.
 fn with_hours(rt: &impl Print, bits: u16) -> io::Result<()> {
     print!(rt; "hours bits {bits}: ")?;
-    one_rule(rt, 1, &hours(bits))
+    one_record(rt, 1, &hours(bits))
 }
 
 fn with_job(rt: &impl Print, jobs: u16, z: u16) -> io::Result<()> {
     print!(rt; "job of {jobs}, {z}: ")?;
-    one_rule(rt, jobs, &rule(z, 0))
+    one_record(rt, jobs, &rule(z, 0))
+}
+
+// A file of some bytes, under its name.
+fn named(rt: &impl Print, name: &str, file: &[u8]) -> io::Result<()> {
+    print!(rt; "{name}: ")?;
+    show(rt, file)
+}
+
+// A file cut off at each length.
+fn cut_off(rt: &impl Print, file: &[u8]) -> io::Result<()> {
+    for length in 0..=file.len() {
+        print!(rt; "cut off at {length}: ")?;
+        show(rt, &file[..length])?;
+    }
+    Ok(())
 }
 
 // What the plan writer answers on n times, from a byte of 2,048 on.
@@ -111,8 +140,11 @@ fn main(rt: HostRuntime) -> io::Result<()> {
     for jobs in [0, 1, 256, 257] {
         with_jobs(&rt, jobs)?;
     }
-    with_rules(&rt, 1024)?;
-    with_rules(&rt, 1025)?;
+    with_records(&rt, 0, 1024)?;
+    with_records(&rt, 0, 1025)?;
+    with_records(&rt, 256, 1024)?;
+    with_records(&rt, 256, 1025)?;
+    with_records(&rt, 257, 0)?;
     for bits in [20160, 20161, 4294947136, 4294947135] {
         with_offset(&rt, bits)?;
     }
@@ -121,10 +153,13 @@ fn main(rt: HostRuntime) -> io::Result<()> {
     }
     with_job(&rt, 256, 255)?;
     with_job(&rt, 256, 256)?;
-    print!(rt; "42 4B 01 00 52: ")?;
-    show(&rt, b"\x42\x4B\x01\x00\x52")?;
-    print!(rt; "no byte: ")?;
-    show(&rt, b"")?;
+    for (name, file) in example_books::LATEST_LIMITS {
+        print!(rt; "latest times, ")?;
+        named(&rt, name, file)?;
+    }
+    cut_off(&rt, example_books::EARLIEST)?;
+    named(&rt, "42 4B 01 00 52", b"\x42\x4B\x01\x00\x52")?;
+    named(&rt, "no byte", b"")?;
     with_times(&rt, 0, 0)?;
     with_times(&rt, 1, 0)?;
     with_times(&rt, 256, 0)?;

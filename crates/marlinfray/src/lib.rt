@@ -4,6 +4,7 @@
 #![tactic(auto)]
 
 ghost use Rattle.std.specs.Prelude.{◌≡◌, MatchResult, length};
+ghost use Rattle.maxatom.specs.Book.{book};
 ghost use Rattle.maxatom.specs.Class.{class_of};
 ghost use Rattle.maxatom.specs.declared.Rule.{Rule};
 ghost use Rattle.derivation.specs.Refusals.{verdict};
@@ -12,7 +13,7 @@ ghost use Rattle.derivation.specs.Calls.{model_check_call, tight_call, initial_r
 ghost use Rattle.derivation.specs.Replies.{model_check, solved_answer, state_of};
 ghost use Rattle.derivation.specs.Examples.{class_number};
 ghost use Rattle.bookfile.specs.Reading.{place_of};
-ghost use Rattle.bookfile.specs.Replies.{read_reply, read_into};
+ghost use Rattle.bookfile.specs.Replies.{read_reply, read_rules, read_latest};
 ghost use Rattle.bookfile.specs.Writing.{plan_checks, plan_out};
 ghost use Rattle.marlinfray.specs.Exported.{reply_words, refusal_words, done_words, count_words, check_words, tight_words, run_words, place_words};
 
@@ -117,11 +118,17 @@ where
 
 // The reader.
 #[unsafe(no_mangle)]
-pub extern "C" fn marlinfray_read_book(file: &[u8], rules: &mut [Rule], reply: &mut Words)
-    ensures { (reply.new ≡ reply_words count_words (read_reply file.now (length rules.old)))
-        × (rules.new ≡ read_into file.now (length rules.old) (λ (q : Rule). q) rules.old) }
+pub extern "C" fn marlinfray_read_book(
+    file: &[u8],
+    rules: &mut [Rule],
+    latest: &mut [i32],
+    reply: &mut Words,
+)
+    ensures { (reply.new ≡ reply_words count_words (read_reply file.now (length rules.old) (length latest.old)))
+        × (rules.new ≡ read_rules file.now rules.old latest.old)
+        × (latest.new ≡ read_latest file.now rules.old latest.old) }
 {
-    *reply = planner::read_book(file, rules).into();
+    *reply = planner::read_book(file, rules, latest).into();
 }
 
 // A rule's record, as a stretch of the file.
@@ -153,12 +160,13 @@ pub extern "C" fn marlinfray_class(x: u16, y: u16, z: u16, k: i32) -> u8
 pub extern "C" fn marlinfray_first_violated(
     n: usize,
     rules: &[Rule],
+    latest: &[i32],
     times: &[i32],
     reply: &mut Words,
 )
-    ensures { reply.new ≡ reply_words check_words (model_check_call n rules.now times.now) }
+    ensures { reply.new ≡ reply_words check_words (model_check_call (book n latest.now rules.now) times.now) }
 {
-    *reply = planner::first_violated(n, rules, times).into();
+    *reply = planner::first_violated(n, rules, latest, times).into();
 }
 
 // Tight test.
@@ -166,22 +174,23 @@ pub extern "C" fn marlinfray_first_violated(
 pub extern "C" fn marlinfray_is_tight(
     n: usize,
     rules: &[Rule],
+    latest: &[i32],
     times: &[i32],
     number: usize,
     reply: &mut Words,
 )
-    ensures { reply.new ≡ reply_words tight_words (tight_call n rules.now times.now number) }
+    ensures { reply.new ≡ reply_words tight_words (tight_call (book n latest.now rules.now) times.now number) }
 {
-    *reply = planner::is_tight(n, rules, times, number).into();
+    *reply = planner::is_tight(n, rules, latest, times, number).into();
 }
 
 // Fresh board.
 #[unsafe(no_mangle)]
-pub extern "C" fn marlinfray_initial(n: usize, times: &mut [i32], reply: &mut Words)
-    ensures { (reply.new ≡ reply_words done_words (initial_reply n times.old))
-        × (times.new ≡ initial_times n times.old) }
+pub extern "C" fn marlinfray_initial(n: usize, latest: &[i32], times: &mut [i32], reply: &mut Words)
+    ensures { (reply.new ≡ reply_words done_words (initial_reply n latest.now times.old))
+        × (times.new ≡ initial_times n latest.now times.old) }
 {
-    *reply = planner::initial(n, times).into();
+    *reply = planner::initial(n, latest, times).into();
 }
 
 // Hand step.
@@ -189,25 +198,32 @@ pub extern "C" fn marlinfray_initial(n: usize, times: &mut [i32], reply: &mut Wo
 pub extern "C" fn marlinfray_step(
     n: usize,
     rules: &[Rule],
+    latest: &[i32],
     times: &mut [i32],
     tally: &mut Tally,
     number: usize,
     reply: &mut Words,
 )
-    ensures { (reply.new ≡ reply_words done_words (step_call n rules.now (state_of times.old tally.old) number).said)
-        × (times.new ≡ (step_call n rules.now (state_of times.old tally.old) number).after.times)
-        × (tally.new ≡ (step_call n rules.now (state_of times.old tally.old) number).after.tally) }
+    ensures { (reply.new ≡ reply_words done_words (step_call (book n latest.now rules.now) (state_of times.old tally.old) number).said)
+        × (times.new ≡ (step_call (book n latest.now rules.now) (state_of times.old tally.old) number).after.times)
+        × (tally.new ≡ (step_call (book n latest.now rules.now) (state_of times.old tally.old) number).after.tally) }
 {
-    *reply = planner::step(n, rules, times, tally, number).into();
+    *reply = planner::step(n, rules, latest, times, tally, number).into();
 }
 
 // Bench run.
 #[unsafe(no_mangle)]
-pub extern "C" fn marlinfray_solve(n: usize, rules: &[Rule], times: &mut [i32], reply: &mut Words)
-    ensures { (reply.new ≡ reply_words run_words (run_reply n rules.now times.old))
-        × (times.new ≡ run_times n rules.now times.old) }
+pub extern "C" fn marlinfray_solve(
+    n: usize,
+    rules: &[Rule],
+    latest: &[i32],
+    times: &mut [i32],
+    reply: &mut Words,
+)
+    ensures { (reply.new ≡ reply_words run_words (run_reply (book n latest.now rules.now) times.old))
+        × (times.new ≡ run_times (book n latest.now rules.now) times.old) }
 {
-    *reply = planner::solve(n, rules, times).into();
+    *reply = planner::solve(n, rules, latest, times).into();
 }
 
 // Plan writer.

@@ -1,7 +1,6 @@
 -- The checks of a table with its times: their answer is K, and what a call says after them.
 use Rattle.std.specs.Prelude.{List, ℕ, ℤ, Result, Ok, Err}
-use Rattle.maxatom.specs.Book.{total}
-use Rattle.maxatom.specs.declared.Rule.{Rule}
+use Rattle.maxatom.specs.Book.{Book, total}
 use Rattle.derivation.specs.Refusals.{Reply, refused, Check, reply, times_checks, lent}
 use Rattle.derivation.specs.Faults.{number_of}
 use Rattle.derivation.specs.Replies.{reply_of}
@@ -12,8 +11,8 @@ abbrev pub sum_reply : Result ℕ Refusal → Reply ℕ
 sum_reply r = reply_of (λ k. k) r
 
 -- what the checks of a table with its times say, with K for an answer
-abbrev pub checks_reply : ℕ → List Rule → List ℤ → Reply ℕ
-checks_reply jobs rules times = reply (times_checks jobs rules times) (total rules)
+abbrev pub checks_reply : Book → List ℤ → Reply ℕ
+checks_reply b times = reply (times_checks b times) (total b.rules)
 
 -- what a call says where the checks of its table said r: their refusal, or what the checks behind them say
 abbrev pub then_reply : {A : Type 0} → Result ℕ Refusal → List Check → A → Reply A

@@ -1,15 +1,15 @@
-// The checks of a table, and its K.
+// The checks of a table and of its latest times, and its K.
 ghost use Rattle.std.specs.Prelude.{◌≡◌};
+ghost use Rattle.maxatom.specs.Book.{book};
 ghost use Rattle.planner.specs.Checks.{sum_reply, checks_reply};
 
 use derivation::{Fault, Refusal};
 use maxatom::Rule;
-use table::check_rule;
+use table::{check_latest, check_rule};
 
-// The checks of a table with its times: the job count, the rule count, each rule in turn, the number of times. Answers K.
-#[tactic(auto, using(crate::proofs::Checking::few_jobs, crate::proofs::Checking::many_rules, crate::proofs::Checking::checked_none))]
-pub fn check(n: usize, rules: &[Rule], times: &[i32]) -> Result<u32, Refusal>
-    ensures { sum_reply result ≡ checks_reply n rules.now times.now }
+// The checks of a table with its times: the job count, the rule count, each rule in turn, the latest times, the number of times. Answers K.
+pub fn check(n: usize, rules: &[Rule], latest: &[i32], times: &[i32]) -> Result<u32, Refusal>
+    ensures { sum_reply result ≡ checks_reply (book n latest.now rules.now) times.now }
 {
     if n < 1 || 256 < n {
         return Err(Fault::JobCount.into());
@@ -22,6 +22,7 @@ pub fn check(n: usize, rules: &[Rule], times: &[i32]) -> Result<u32, Refusal>
         check_rule(n, *r).map_err(|fault| Refusal { fault, place: i })?;
         k += r.k.unsigned_abs();
     }
+    check_latest(n, latest)?;
     if times.len() != n {
         return Err(Fault::Length.into());
     }

@@ -1,5 +1,6 @@
 // The hand step.
 ghost use Rattle.std.specs.Prelude.{◌≡◌};
+ghost use Rattle.maxatom.specs.Book.{book};
 ghost use Rattle.derivation.specs.Step.{step_on, step_call};
 ghost use Rattle.derivation.specs.Replies.{outcome_reply, state_of};
 ghost use Rattle.planner.specs.Steps.{StepRoom};
@@ -8,7 +9,7 @@ use crate::checks::check;
 use derivation::{Fault, Refusal, Tally};
 use maxatom::Rule;
 use solver::{below_floor, in_range, is_satisfied, lower, tally_fits};
-use table::floor;
+use table::{floor, smallest};
 
 // Sets z's time to the rule's left side, and brings the tally up to date.
 #[tactic(auto, unfolding(derivation::specs::Step::step_on))]
@@ -24,23 +25,27 @@ fn take_step(r: Rule, times: &mut [i32], tally: &mut Tally)
 pub fn step(
     n: usize,
     rules: &[Rule],
+    latest: &[i32],
     times: &mut [i32],
     tally: &mut Tally,
     number: usize,
 ) -> Result<(), Refusal>
-    ensures said { outcome_reply result ≡ (step_call n rules.now (state_of times.old tally.old) number).said }
-    ensures times_after { times.new ≡ (step_call n rules.now (state_of times.old tally.old) number).after.times }
-    ensures tally_after { tally.new ≡ (step_call n rules.now (state_of times.old tally.old) number).after.tally }
+    ensures said { outcome_reply result ≡ (step_call (book n latest.now rules.now) (state_of times.old tally.old) number).said }
+    ensures times_after { times.new ≡ (step_call (book n latest.now rules.now) (state_of times.old tally.old) number).after.times }
+    ensures tally_after { tally.new ≡ (step_call (book n latest.now rules.now) (state_of times.old tally.old) number).after.tally }
 {
-    let k = check(n, rules, times)?;
-    if !in_range(times, k) {
+    let k = check(n, rules, latest, times)?;
+    let least = smallest(latest);
+    let lowest = floor(least, 2 * k);
+    let floor = floor(least, k);
+    if !in_range(latest, times, lowest) {
         return Err(Fault::IllegalBoard.into());
     }
-    if !tally_fits(times, *tally) {
+    if !tally_fits(latest, times, *tally) {
         return Err(Fault::TallyDiffers.into());
     }
     let r = *rules.get(number).ok_or(Fault::NoSuchRule)?;
-    if below_floor(times, floor(k)) {
+    if below_floor(times, floor) {
         return Err(Fault::ShowsNone.into());
     }
     if is_satisfied(r, times) {

@@ -1,6 +1,7 @@
 // The kept test.
 ghost use Rattle.std.specs.Prelude.{◌≡◌, not, length, All, position};
 ghost use Rattle.maxatom.specs.Rule.{satisfied};
+ghost use Rattle.maxatom.specs.Book.{book};
 ghost use Rattle.maxatom.specs.Clauses.{clause_of, InJobs};
 ghost use Rattle.derivation.specs.Calls.{model_check_call};
 ghost use Rattle.derivation.specs.Replies.{model_check_reply};
@@ -19,10 +20,15 @@ fn find_violated(rules: &[Rule], times: &[i32]) -> Option<usize>
 }
 
 // Kept test: every rule is satisfied, or the first violated one. Any times.
-#[tactic(auto, using(crate::proofs::Answering::kept_refused, crate::proofs::Answering::all_in_jobs))]
-pub fn first_violated(n: usize, rules: &[Rule], times: &[i32]) -> Result<Option<usize>, Refusal>
-    ensures { model_check_reply result ≡ model_check_call n rules.now times.now }
+#[tactic(auto, using(crate::proofs::Answering::kept_refused))]
+pub fn first_violated(
+    n: usize,
+    rules: &[Rule],
+    latest: &[i32],
+    times: &[i32],
+) -> Result<Option<usize>, Refusal>
+    ensures { model_check_reply result ≡ model_check_call (book n latest.now rules.now) times.now }
 {
-    check(n, rules, times)?;
+    check(n, rules, latest, times)?;
     Ok(find_violated(rules, times))
 }

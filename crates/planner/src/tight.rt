@@ -1,5 +1,6 @@
 // The tight test.
 ghost use Rattle.std.specs.Prelude.{◌≡◌};
+ghost use Rattle.maxatom.specs.Book.{book};
 ghost use Rattle.derivation.specs.Calls.{tight_call};
 ghost use Rattle.derivation.specs.Replies.{tight_reply};
 
@@ -9,11 +10,17 @@ use maxatom::Rule;
 use solver::is_equality;
 
 // Tight test. Any times, any rule number.
-#[tactic(auto, using(crate::proofs::Answering::tight_refused, crate::proofs::Answering::tight_no_rule))]
-pub fn is_tight(n: usize, rules: &[Rule], times: &[i32], number: usize) -> Result<bool, Refusal>
-    ensures { tight_reply result ≡ tight_call n rules.now times.now number }
+#[tactic(auto, using(crate::proofs::Answering::tight_refused))]
+pub fn is_tight(
+    n: usize,
+    rules: &[Rule],
+    latest: &[i32],
+    times: &[i32],
+    number: usize,
+) -> Result<bool, Refusal>
+    ensures { tight_reply result ≡ tight_call (book n latest.now rules.now) times.now number }
 {
-    check(n, rules, times)?;
+    check(n, rules, latest, times)?;
     let r = rules.get(number).ok_or(Fault::NoSuchRule)?;
     Ok(is_equality(*r, times))
 }

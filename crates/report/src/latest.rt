@@ -1,6 +1,7 @@
 // The report of a book's file.
-ghost use Rattle.std.specs.Prelude.{◌+◌, ◌^◌, ◌<◌, ◌≤◌, length};
-ghost use Rattle.maxatom.specs.Book.{Accepted};
+ghost use Rattle.std.specs.Prelude.{◌≡◌, ◌+◌, ◌^◌, ◌<◌, ◌≤◌, length};
+ghost use Rattle.maxatom.specs.Book.{book};
+ghost use Rattle.maxatom.specs.Accepted.{Accepted};
 ghost use Rattle.report.specs.Text.{Written, Writes};
 ghost use Rattle.report.specs.Latest.{table_text, report_of};
 
@@ -11,39 +12,46 @@ use maxatom::Rule;
 use solver::solve;
 
 impl Text<'_> {
-    // The report of an accepted book; the times are those of its jobs.
-    fn table(&mut self, rules: &[Rule], times: &mut [i32])
-        requires accepted { Accepted (length times.old) rules.now }
+    // The report of an accepted book, whose jobs have these latest times; the times lent have a place for each job.
+    fn table(&mut self, rules: &[Rule], latest: &[i32], times: &mut [i32])
+        requires accepted { Accepted (book (length latest.now) latest.now rules.now) }
+        requires room { length times.old ≡ length latest.now }
         requires end_bound { self.old.end < 2 ^ 28 }
-        ensures written { Writes self.old (table_text (length times.old) rules.now times.old) self.new }
+        ensures written { Writes self.old (table_text (book (length latest.now) latest.now rules.now) times.old) self.new }
         ensures upper_bound { self.new.end ≤ self.old.end + 65536 }
     {
         let mut k = 0;
         for r in rules {
             k += r.k.unsigned_abs();
         }
-        match solve(rules, k, times) {
+        match solve(rules, latest, k, times) {
             Solved::Plan(steps) => self.plan(rules, k, times, steps),
-            Solved::None(steps, job) => self.none(times.len(), rules.len(), k, job, steps),
+            Solved::None(steps, job) => self.none(latest.len(), rules.len(), k, job, steps),
         }
     }
 
     // The report of a file.
+    #[tactic(auto, using(crate::proofs::Reports::room, crate::proofs::Reports::take_length))]
     fn file(&mut self, file: &[u8])
         requires end_bound { self.old.end < 2 ^ 28 }
         ensures written { Writes self.old (report_of file.now) self.new }
         ensures upper_bound { self.new.end ≤ self.old.end + 65536 }
     {
-        // There is no heap: the rules and the times are the first places of arrays, as many as the reader counts.
+        // There is no heap: the rules, the latest times and the times are the first places of arrays, as many as the reader counts.
         let mut rules = [Rule {
             x: 0,
             y: 0,
             z: 0,
             k: 0,
         }; 1024];
+        let mut latest = [0; 256];
         let mut times = [0; 256];
-        match read_book(file, &mut rules) {
-            Ok(counts) => self.table(&rules[..counts.rules], &mut times[..counts.jobs]),
+        match read_book(file, &mut rules, &mut latest) {
+            Ok(counts) => self.table(
+                &rules[..counts.rules],
+                &latest[..counts.jobs],
+                &mut times[..counts.jobs],
+            ),
             Err(refusal) => self.refused_line(refusal),
         }
     }

@@ -1,7 +1,8 @@
-// The lines of the report. That rules and times are those of an accepted book is a clause and no type, since both are slices that callers
+// The lines of the report. That rules and times are those of an accepted book are clauses and no type, since both are slices that callers
 // lend.
 ghost use Rattle.std.specs.Prelude.{◌++◌, ◌+◌, ◌<◌, ◌≤◌, ◌^◌, length, ◌≡◌};
-ghost use Rattle.maxatom.specs.Book.{Accepted, total};
+ghost use Rattle.maxatom.specs.Book.{most_jobs, most_rules, Each, total};
+ghost use Rattle.maxatom.specs.Accepted.{InBook};
 ghost use Rattle.derivation.specs.Faults.{number_of};
 ghost use Rattle.report.specs.Text.{Writes};
 ghost use Rattle.report.specs.Report.{book_line, job_line, job_lines, tight_fields, tight_line, steps_line, none_line, refused_line, plan_text};
@@ -36,7 +37,7 @@ impl Text<'_> {
     }
 
     fn job_lines(&mut self, times: &[i32])
-        requires { (self.old.end < 2 ^ 30) × (length times.now ≤ 256) }
+        requires { (self.old.end < 2 ^ 30) × (length times.now ≤ most_jobs) }
         ensures written { Writes self.old (job_lines 0 times.now) self.new }
         ensures upper_bound { self.new.end ≤ self.old.end + 20480 }
     {
@@ -77,7 +78,8 @@ impl Text<'_> {
     }
 
     fn tight_fields(&mut self, rules: &[Rule], times: &[i32])
-        requires accepted { Accepted (length times.now) rules.now }
+        requires bounds { (length times.now ≤ most_jobs) × (length rules.now ≤ most_rules) }
+        requires rules_in { Each (InBook (length times.now)) rules.now }
         requires end_bound { self.old.end < 2 ^ 30 }
         ensures written { Writes self.old (tight_fields 0 rules.now times.now) self.new }
         ensures upper_bound { self.new.end ≤ self.old.end + 24576 }
@@ -90,7 +92,8 @@ impl Text<'_> {
     }
 
     fn tight_line(&mut self, rules: &[Rule], times: &[i32])
-        requires accepted { Accepted (length times.now) rules.now }
+        requires bounds { (length times.now ≤ most_jobs) × (length rules.now ≤ most_rules) }
+        requires rules_in { Each (InBook (length times.now)) rules.now }
         requires end_bound { self.old.end < 2 ^ 29 }
         ensures written { Writes self.old (tight_line rules.now times.now) self.new }
         ensures upper_bound { self.new.end ≤ self.old.end + 24600 }
@@ -102,7 +105,8 @@ impl Text<'_> {
 
     // The report of a plan of a book whose K is k.
     pub fn plan(&mut self, rules: &[Rule], k: u32, times: &[i32], steps: u64)
-        requires accepted { Accepted (length times.now) rules.now }
+        requires bounds { (length times.now ≤ most_jobs) × (length rules.now ≤ most_rules) }
+        requires rules_in { Each (InBook (length times.now)) rules.now }
         requires k_value { k ≡ total rules.now }
         requires end_bound { self.old.end < 2 ^ 28 }
         ensures written { Writes self.old (plan_text rules.now times.now steps) self.new }

@@ -1,11 +1,11 @@
-// Every book of up to two rules over two jobs, and of two rules over three, with offsets from -1 to 1: the bench run, hand steps in three
-// orders, and a search over all times from -6 to 0 must agree.
+// Every book of up to two rules over two jobs, and of two rules over three, with offsets from -1 to 1 and latest times from -2 to 0: the
+// bench run, hand steps in three orders, and a search over all times from -6 up to the latest times must agree.
 
 #![tactic(auto)]
 
 ghost use Rattle.std.specs.Prelude.{◌<◌, ◌≤◌};
 
-use planner::{Fault, Refusal, Rule, Solved, Tally, first_violated, solve, step};
+use planner::{Fault, Refusal, Rule, Solved, Tally, first_violated, initial, solve, step};
 use std::fmt::Display;
 use std::{fmt, io};
 
@@ -47,6 +47,25 @@ fn rules_of(n: usize, number: usize) -> [Rule; 2]
     [rule(n, number), rule(n, number / n / n / n / 3)]
 }
 
+fn minute(number: usize) -> i32 {
+    match number % 3 {
+        0 => 0,
+        1 => -1,
+        _ => -2,
+    }
+}
+
+// Latest times are a number: its digits to base 3 are the minutes before zero. A job that the book has not stands at 0, so that those of
+// two jobs are the numbers below 9.
+fn latest_of(number: usize) -> [i32; 3] {
+    [minute(number), minute(number / 3), minute(number / 9)]
+}
+
+// Whether no job has a later time than the next one. With its jobs renumbered each book is one whose latest times are so.
+fn are_ascending(times: [i32; 3]) -> bool {
+    times[0] <= times[1] && times[1] <= times[2]
+}
+
 // What was found: a plan, none, or what should not be. A job that the book has not stands at 0. It is no `Option`, since three things may
 // be found.
 #[derive(Clone, Copy, PartialEq, Eq)]
@@ -75,19 +94,20 @@ fn all_satisfied(rules: &[Rule], times: [i32; 3]) -> bool {
 }
 
 // The later of two assignments, job by job.
-fn latest_of(s: [i32; 3], t: [i32; 3]) -> [i32; 3] {
+fn later_of(s: [i32; 3], t: [i32; 3]) -> [i32; 3] {
     [s[0].max(t[0]), s[1].max(t[1]), s[2].max(t[2])]
 }
 
-// What a search finds: the latest time of each job, which must make a plan together.
-fn searched(rules: &[Rule]) -> Answer {
+// What a search finds: the latest time of each job, which must make a plan together. The floor is at -4 or above it: the offsets are two
+// minutes at most in all, and no latest time is below -2.
+fn searched(rules: &[Rule], latest: [i32; 3]) -> Answer {
     let mut best = None;
-    for x in -6..=0 {
-        for y in -6..=0 {
-            for z in -6..=0 {
+    for x in -6..=latest[0] {
+        for y in -6..=latest[1] {
+            for z in -6..=latest[2] {
                 let times = [x, y, z];
                 if all_satisfied(rules, times) {
-                    best = Some(latest_of(best.unwrap_or(times), times));
+                    best = Some(later_of(best.unwrap_or(times), times));
                 }
             }
         }
@@ -105,11 +125,11 @@ fn searched(rules: &[Rule]) -> Answer {
 }
 
 // What the bench run finds.
-fn solved(n: usize, rules: &[Rule]) -> Answer
+fn solved(n: usize, rules: &[Rule], latest: [i32; 3]) -> Answer
     requires { n ≤ 3 }
 {
     let mut times = [0; 3];
-    match solve(n, rules, &mut times[..n]) {
+    match solve(n, rules, &latest[..n], &mut times[..n]) {
         Ok(Solved::Plan(_)) => Answer::Plan(times),
         Ok(Solved::None(_, _)) => Answer::None,
         Err(_) => Answer::Odd,
@@ -145,43 +165,65 @@ impl Order {
     }
 }
 
-// Hand steps until all are refused: a book takes at most 3 * 2 + 1, and any two turns name a violated rule. A rule that is satisfied or
-// is not there is refused, and nothing changes.
-fn all_steps(order: Order, n: usize, rules: &[Rule], times: &mut [i32]) -> Tally {
+// Hand steps until all rules are satisfied, or until all are refused since the board shows none. Of three jobs two may stand 4 minutes
+// above the floor and one 2, so that a book takes at most 11 steps, and any two turns name a violated rule. A rule that is satisfied or is
+// not there is refused, and nothing changes.
+fn all_steps(order: Order, n: usize, rules: &[Rule], latest: &[i32], times: &mut [i32]) -> Tally {
     let mut tally = Tally {
         steps: 0,
         minutes: 0,
     };
-    for turn in 0..16 {
-        let found = first_violated(n, rules, times);
-        let _ = step(n, rules, times, &mut tally, order.named(turn, found));
+    for turn in 0..22 {
+        let found = first_violated(n, rules, latest, times);
+        if let Ok(None) = found {
+            break;
+        }
+        let _ = step(
+            n,
+            rules,
+            latest,
+            times,
+            &mut tally,
+            order.named(turn, found),
+        );
     }
     tally
 }
 
-// What hand steps in an order find, and their number. They end with all rules satisfied, or with a board that shows none, so that one
-// more step is refused for that. The minutes of a plan must be the sum of the depths.
-fn by_hand(order: Order, n: usize, rules: &[Rule]) -> (Answer, u64)
+// By how many minutes the times stand before zero, in all.
+fn depth(times: [i32; 3]) -> u64 {
+    times.iter().fold(
+        0u64,
+        |sum, t| sum.saturating_add(u64::from(t.unsigned_abs())),
+    )
+}
+
+// What hand steps from a fresh board find in an order, and their number. They end with all rules satisfied, or with a board that shows
+// none, so that one more step is refused for that. The minutes of a plan must be those by which it stands before the latest times.
+fn by_hand(order: Order, n: usize, rules: &[Rule], latest: [i32; 3]) -> (Answer, u64)
     requires { n ≤ 3 }
 {
     let mut times = [0; 3];
-    let mut tally = all_steps(order, n, rules, &mut times[..n]);
+    if initial(n, &latest[..n], &mut times[..n]).is_err() {
+        return (Answer::Odd, 0);
+    }
+    let mut tally = all_steps(order, n, rules, &latest[..n], &mut times[..n]);
     let Tally { steps, minutes } = tally;
-    let more = step(n, rules, &mut times[..n], &mut tally, 0);
-    let depth = times.iter().fold(
-        0u64,
-        |sum, t| sum.saturating_add(u64::from(t.unsigned_abs())),
-    );
-    let answer = match (first_violated(n, rules, &times[..n]), more) {
-        (Ok(None), _) if minutes == depth => Answer::Plan(times),
+    let more = step(n, rules, &latest[..n], &mut times[..n], &mut tally, 0);
+    let lowered = depth(times).saturating_sub(depth(latest));
+    let answer = match (first_violated(n, rules, &latest[..n], &times[..n]), more) {
+        (Ok(None), _) if minutes == lowered => Answer::Plan(times),
         (Ok(Some(_)), Err(refusal)) if refusal.fault == Fault::ShowsNone => Answer::None,
         _ => Answer::Odd,
     };
     (answer, steps)
 }
 
+// What hand steps in an order found of some books.
 #[derive(Clone, Copy)]
 struct Sums {
+    order: Order,
+    books: u64,
     plans: u64,
     nones: u64,
     steps: u64,
@@ -191,6 +233,8 @@ struct Sums {
 impl Display for Sums {
     fn fmt<W: fmt::Write>(&self, f: &mut fmt::Formatter<W>) -> fmt::Result {
         let Sums {
+            order,
+            books,
             plans,
             nones,
             steps,
@@ -198,18 +242,30 @@ impl Display for Sums {
         } = self;
         write!(
             f,
-            "PLANS {plans} NONES {nones} STEPS {steps} DIFFERING {differing}"
+            "{order} BOOKS {books} PLANS {plans} NONES {nones} STEPS {steps} DIFFERING {differing}"
         )
     }
 }
 
 impl Sums {
-    // Sums the book of some rules: what hand steps find, where the run and the search find the same.
-    fn count(&mut self, order: Order, n: usize, rules: &[Rule])
+    fn new(order: Order) -> Sums {
+        Sums {
+            order,
+            books: 0,
+            plans: 0,
+            nones: 0,
+            steps: 0,
+            differing: 0,
+        }
+    }
+
+    // Sums one more book: what hand steps find, where it is what was found of the book.
+    fn count(&mut self, found: Answer, n: usize, rules: &[Rule], latest: [i32; 3])
         requires { n ≤ 3 }
     {
-        let (answer, steps) = by_hand(order, n, rules);
-        if answer != searched(rules) || answer != solved(n, rules) {
+        let (answer, steps) = by_hand(self.order, n, rules, latest);
+        self.books = self.books.saturating_add(1);
+        if answer != found {
             self.differing = self.differing.saturating_add(1);
             return;
         }
@@ -222,33 +278,47 @@ impl Sums {
     }
 }
 
-// All books of `count` rules, which are `many`.
-fn show(rt: &impl Print, order: Order, n: usize, count: usize, many: usize) -> io::Result<()>
-    requires { (0 < n) × (n ≤ 3) × (count ≤ 2) }
+// What the search finds of a book, where the run finds the same.
+fn found(n: usize, rules: &[Rule], latest: [i32; 3]) -> Answer
+    requires { n ≤ 3 }
 {
-    let mut counts = Sums {
-        plans: 0,
-        nones: 0,
-        steps: 0,
-        differing: 0,
-    };
-    for number in 0..many {
-        counts.count(order, n, &rules_of(n, number)[..count]);
+    let answer = searched(rules, latest);
+    if answer == solved(n, rules, latest) {
+        answer
+    } else {
+        Answer::Odd
     }
-    println!(rt; "{order} JOBS {n} RULES {count} BOOKS {many} {counts}")
 }
 
-fn orders(rt: &impl Print, n: usize, count: usize, many: usize) -> io::Result<()>
+// All books of `count` rules, which are `many`, with the latest times of the numbers below `choices`.
+fn show(rt: &impl Print, n: usize, count: usize, many: usize, choices: usize) -> io::Result<()>
     requires { (0 < n) × (n ≤ 3) × (count ≤ 2) }
 {
-    show(rt, Order::Down, n, count, many)?;
-    show(rt, Order::Up, n, count, many)?;
-    show(rt, Order::First, n, count, many)
+    let mut down = Sums::new(Order::Down);
+    let mut up = Sums::new(Order::Up);
+    let mut first = Sums::new(Order::First);
+    for number in 0..many {
+        let both = rules_of(n, number);
+        let rules = &both[..count];
+        for choice in 0..choices {
+            let latest = latest_of(choice);
+            if are_ascending(latest) {
+                let answer = found(n, rules, latest);
+                down.count(answer, n, rules, latest);
+                up.count(answer, n, rules, latest);
+                first.count(answer, n, rules, latest);
+            }
+        }
+    }
+    for sums in [down, up, first] {
+        println!(rt; "JOBS {n} RULES {count} {sums}")?;
+    }
+    Ok(())
 }
 
 fn main(rt: HostRuntime) -> io::Result<()> {
-    orders(&rt, 2, 0, 1)?;
-    orders(&rt, 2, 1, 24)?;
-    orders(&rt, 2, 2, 576)?;
-    orders(&rt, 3, 2, 6561)
+    show(&rt, 2, 0, 1, 9)?;
+    show(&rt, 2, 1, 24, 9)?;
+    show(&rt, 2, 2, 576, 9)?;
+    show(&rt, 3, 2, 6561, 27)
 }

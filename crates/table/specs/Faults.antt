@@ -1,10 +1,14 @@
--- What is said of one rule of a table.
-use Rattle.std.specs.Prelude.{cond, ℕ, Result, Ok, Err, ⊤}
+-- What is said of one rule of a table, and of one latest time.
+use Rattle.std.specs.Prelude.{cond, ℕ, ℤ, Result, Ok, Err, ⊤}
 use Rattle.maxatom.specs.declared.Rule.{Rule}
-use Rattle.derivation.specs.Refusals.{job_outside, offset_outside}
+use Rattle.derivation.specs.Refusals.{job_outside, offset_outside, latest_outside}
 use Rattle.derivation.specs.declared.Fault.{Fault}
-use Rattle.derivation.specs.declared.Fault.TheVariants.{JobNumber, Offset}
+use Rattle.derivation.specs.declared.Fault.TheVariants.{JobNumber, Offset, LatestTime}
 
 -- a job number that is not below the job count comes before an offset outside its bounds
 unfoldable pub rule_fault : ℕ → Rule → Result ⊤ Fault
 rule_fault jobs r = cond (job_outside jobs r) (Err JobNumber) (cond (offset_outside r) (Err Offset) (Ok tt))
+
+-- a latest time outside its bounds
+unfoldable pub time_fault : ℤ → Result ⊤ Fault
+time_fault t = cond (latest_outside t) (Err LatestTime) (Ok tt)

@@ -1,9 +1,12 @@
 use Rattle.std.proofs.Common.{arith, ◌≡◌, ◌∷◌, ◌+◌, ◌∙◌, List, sym, ap, drop, add-one}
-use lib.ListN.{drop_of_length-le}
+use lib.ListN.{length, drop_of_length-le}
 use lib.Seq.{drop-cons}
 use Rattle.maxatom.specs.declared.Rule.{Rule}
 use Rattle.maxatom.proofs.Choose.{cond_yes, cond_no}
+use Rattle.maxatom.specs.Accepted.{InBook}
 use Rattle.derivation.specs.Step.{no_rule, rule_at}
+use Rattle.derivation.proofs.AnyOrder.{each_at}
+use Rattle.solver.proofs.Laws.{in_jobs}
 use Rattle.report.specs.Report.{tight_fields}
 use Rattle.report.specs.declared.text.Text.{Text}
 use Rattle.report.proofs.Texts.{listed_next, listed_same, listed_all}
@@ -32,6 +35,11 @@ loop-i-preserved c =
             listed = rw w.self-is (listed_same (left ∙ cond_no _ _ (sym c.is_equality.ensures ∙ w.if-is_equality.false)) v.listed);
           }
     ]
+
+pub is_equality-requires : goal.is_equality-requires
+is_equality-requires c =
+    let times = c.args.times.now in
+    in_jobs (length times) _ (each_at (InBook (length times)) c.args.rules.now c.loop-i.i c.loop-i-test.true c.requires.rules_in)
 
 pub returns-clause-written : goal.returns-clause-written
 unfolding tight_fields

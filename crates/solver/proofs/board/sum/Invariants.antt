@@ -1,5 +1,5 @@
 use Rattle.solver.proofs.Boards.{Summed}
-use Rattle.solver.proofs.board.depth.Given as goal
+use Rattle.solver.proofs.board.sum.Given as goal
 
 abbrev pub invariant-loop-t : goal.invariant-loop-t
 invariant-loop-t l = Summed l.times l.minutes l.t-index
