@@ -34,7 +34,7 @@ static void solve(const Book *b, Out *o) {
 // ---- straight code ----
 
 static int refuse(marlinfray_reply *reply, uint64_t number, uint64_t place) {
-    *reply = (marlinfray_reply){MARLINFRAY_REFUSED, number, place};
+    *reply = (marlinfray_reply){MARLINFRAY_REFUSED, number, place, 0, 0};
     return 1;
 }
 
@@ -76,18 +76,18 @@ static int32_t floor_of(size_t n, const marlinfray_rule *rules, size_t count, co
 static int pass(const marlinfray_rule *rules, size_t count, int32_t floor, int32_t *times, marlinfray_reply *reply) {
     uint64_t before = reply->first, steps = before;
     for (size_t i = 0; i < count; i++) {
-        int32_t p = times[rules[i].x], q = times[rules[i].y];
+        int32_t p = times[rules[i].x], q = times[rules[i].y], time = times[rules[i].z];
         int32_t left = (p > q ? p : q) + rules[i].k;
-        if (left < times[rules[i].z]) {
+        if (left < time) {
             times[rules[i].z] = left;
             steps++;
             if (left < floor) {
-                *reply = (marlinfray_reply){MARLINFRAY_NONE, steps, rules[i].z};
+                *reply = (marlinfray_reply){MARLINFRAY_NONE, steps, rules[i].z, time, left};
                 return 1;
             }
         }
     }
-    *reply = (marlinfray_reply){MARLINFRAY_PLAN, steps, 0};
+    *reply = (marlinfray_reply){MARLINFRAY_PLAN, steps, 0, 0, 0};
     return steps == before;
 }
 
@@ -148,10 +148,10 @@ __attribute__((noipa)) static void straight_first_violated(size_t n, const marli
         return;
     for (size_t i = 0; i < rules_len; i++)
         if (left_side(rules[i], times) < times[rules[i].z]) {
-            *reply = (marlinfray_reply){MARLINFRAY_VIOLATED, i, 0};
+            *reply = (marlinfray_reply){MARLINFRAY_VIOLATED, i, 0, 0, 0};
             return;
         }
-    *reply = (marlinfray_reply){MARLINFRAY_SATISFIED, 0, 0};
+    *reply = (marlinfray_reply){MARLINFRAY_SATISFIED, 0, 0, 0, 0};
 }
 
 __attribute__((noipa)) static int straight_step(size_t n, const marlinfray_rule *rules, size_t rules_len, const int32_t *latest,
@@ -179,8 +179,8 @@ __attribute__((noipa)) static int straight_step(size_t n, const marlinfray_rule 
         return refuse(reply, MARLINFRAY_REFUSED_SATISFIED, 0);
     tally->steps++;
     tally->minutes += *time - left;
+    *reply = (marlinfray_reply){MARLINFRAY_DONE, rules[number].z, 0, *time, left};
     *time = left;
-    *reply = (marlinfray_reply){MARLINFRAY_DONE, 0, 0};
     return 0;
 }
 

@@ -40,7 +40,7 @@ seen = {call: set() for call in REFUSALS}
 
 
 def number(v):
-    return "%x" % v
+    return "%x" % (v % 2**64)
 
 
 def lent(before, after=None):
@@ -82,7 +82,7 @@ def record(data, rule):
 
 
 def class_of(x, y, z, k):
-    line("class", (ref.class_of(x, y, z, k), 0, 0), *map(number, (x, y, z, k % 2**32)))
+    line("class", ref.answered(ref.class_of(x, y, z, k)), *map(number, (x, y, z, k)))
 
 
 def first_violated(n, rules, latest, times):
@@ -519,7 +519,7 @@ def files():
 
 def file_calls():
     for data in files():
-        (kind, n, _), rules, _ = ref.read(data, RULES, JOBS)
+        (kind, n, *_), rules, _ = ref.read(data, RULES, JOBS)
         count = len(rules)
         few = len(data) < 3000
         for places in {count, rng.choice((0, count + 1, max(count - 1, 0), rng.randrange(2 * count + 3), RULES if few else count + 5))}:

@@ -1,10 +1,10 @@
 // Makes the calls of the library that embed/cases.py writes, one on a line of standard input, and compares every reply and every lent
 // buffer with what the line expects. Prints the counts; ends with status 1 where anything differs or a refusal never occurs.
 //
-// A line has the call, the three words of the reply and the arguments in the order of the call, with one blank between them. Numbers
-// are hexadecimal. A buffer is `:`, its bytes as hexadecimal digits and, where the call changes it, `/` and its bytes afterwards, of
-// which `..` may be any. Its length is not written. With `!` for the `:` the call is not to read it, and it is lent where nobody may. The
-// reply itself is lent too, and is no argument here.
+// A line has the call, the five numbers of the reply and the arguments in the order of the call, with one blank between them. Numbers
+// are hexadecimal, those below zero as 64 bits in two's complement. A buffer is `:`, its bytes as hexadecimal digits and, where the call
+// changes it, `/` and its bytes afterwards, of which `..` may be any. Its length is not written. With `!` for the `:` the call is not to
+// read it, and it is lent where nobody may. The reply itself is lent too, and is no argument here.
 #define _DEFAULT_SOURCE
 #include <inttypes.h>
 #include <signal.h>
@@ -22,13 +22,14 @@ _Static_assert(offsetof(marlinfray_rule, x) == 0 && offsetof(marlinfray_rule, y)
                "a rule's fields stand at 0, 2, 4 and 8");
 _Static_assert(sizeof(marlinfray_tally) == 16, "a tally has 16 bytes");
 _Static_assert(offsetof(marlinfray_tally, steps) == 0 && offsetof(marlinfray_tally, minutes) == 8, "a tally's fields stand at 0 and 8");
-_Static_assert(sizeof(marlinfray_reply) == 24, "a reply has 24 bytes");
+_Static_assert(sizeof(marlinfray_reply) == 32, "a reply has 32 bytes");
 _Static_assert(offsetof(marlinfray_reply, kind) == 0 && offsetof(marlinfray_reply, first) == 8 &&
-                   offsetof(marlinfray_reply, second) == 16,
-               "a reply's fields stand at 0, 8 and 16");
+                   offsetof(marlinfray_reply, second) == 16 && offsetof(marlinfray_reply, before) == 24 &&
+                   offsetof(marlinfray_reply, after) == 28,
+               "a reply's fields stand at 0, 8, 16, 24 and 28");
 
-// Each buffer is lent at the start, in the middle and at the end of a room of its own.
-enum { ARGUMENTS = 6, ROOM = 1 << 15, LONGEST = ROOM - 16, SHOWN = 10 };
+// Each buffer is lent at the start, in the middle and at the end of a room of its own. A line has the arguments behind six other words.
+enum { ARGUMENTS = 6, FIRST_ARGUMENT = 6, ROOM = 1 << 15, LONGEST = ROOM - 16, SHOWN = 10 };
 enum { START, MIDDLE, END, SPOTS };
 static const char *const spots[] = {"start", "middle", "end"};
 
@@ -146,7 +147,7 @@ static void call(int c) {
     switch (c) {
     case READ_BOOK: marlinfray_read_book(lent[0], a[0].length, lent[1], a[1].length, lent[2], a[2].length, r); break;
     case RECORD: marlinfray_record(lent[0], a[0].length, a[1].number, r); break;
-    case CLASS: r->kind = marlinfray_class(a[0].number, a[1].number, a[2].number, a[3].number), r->first = r->second = 0; break;
+    case CLASS: *r = (marlinfray_reply){.kind = marlinfray_class(a[0].number, a[1].number, a[2].number, a[3].number)}; break;
     case FIRST_VIOLATED:
         marlinfray_first_violated(a[0].number, lent[1], a[1].length, lent[2], a[2].length, lent[3], a[3].length, r);
         break;
@@ -162,12 +163,17 @@ static void call(int c) {
     }
 }
 
+static void print_reply(const char *what, const marlinfray_reply *r) {
+    fprintf(stderr, "%s %" PRIu64 " %" PRIu64 " %" PRIu64 " %" PRId32 " %" PRId32, what, r->kind, r->first, r->second,
+            r->before, r->after);
+}
+
 // One line: the call with its buffers at each spot. 1 where anything differs.
 static int check(char *line) {
     int c = 0, count = 0;
-    char *words[4 + ARGUMENTS];
+    char *words[FIRST_ARGUMENT + ARGUMENTS];
     for (char *w = strtok(line, " \n"); w; w = strtok(0, " \n")) {
-        if (count == 4 + ARGUMENTS)
+        if (count == FIRST_ARGUMENT + ARGUMENTS)
             wrong_line("too many arguments");
         words[count++] = w;
     }
@@ -176,16 +182,17 @@ static int check(char *line) {
     call_name = words[0];
     while (c < CALLS && strcmp(calls[c].name, words[0]))
         c++;
-    if (c == CALLS || (size_t)count != 4 + strlen(calls[c].types))
+    if (c == CALLS || (size_t)count != FIRST_ARGUMENT + strlen(calls[c].types))
         wrong_line("no such call, or not its arguments");
     const char *types = calls[c].types;
     for (int i = 0; types[i]; i++)
-        read_argument(types[i], words[4 + i], &args[i]);
-    uint64_t expected[3];
-    for (int i = 0; i < 3; i++)
-        expected[i] = strtoull(words[1 + i], 0, 16);
+        read_argument(types[i], words[FIRST_ARGUMENT + i], &args[i]);
+    uint64_t w[FIRST_ARGUMENT];
+    for (int i = 1; i < FIRST_ARGUMENT; i++)
+        w[i] = strtoull(words[i], 0, 16);
+    marlinfray_reply expected = {w[1], w[2], w[3], w[4], w[5]};
     memset(reply.before, 0x5a, reply.bytes = sizeof expected);
-    memcpy(reply.after, expected, sizeof expected);
+    memcpy(reply.after, &expected, sizeof expected);
 
     for (int spot = 0; spot < SPOTS; spot++) {
         for (int i = 0; types[i]; i++)
@@ -195,9 +202,10 @@ static int check(char *line) {
         call(c);
         int differs = !is_as_expected(&reply);
         if (differs) {
-            const marlinfray_reply *r = (const marlinfray_reply *)reply.lent;
-            fprintf(stderr, "line %lu, %s, at the %s: the reply is %" PRIx64 " %" PRIx64 " %" PRIx64 " and not %s %s %s\n", line_number,
-                    words[0], spots[spot], r->kind, r->first, r->second, words[1], words[2], words[3]);
+            fprintf(stderr, "line %lu, %s, at the %s: ", line_number, words[0], spots[spot]);
+            print_reply("the reply is", (const marlinfray_reply *)reply.lent);
+            print_reply(" and not", &expected);
+            fprintf(stderr, "\n");
         }
         for (int i = 0; types[i]; i++)
             if (types[i] != 'n' && !is_as_expected(&args[i].buffer)) {
@@ -209,8 +217,8 @@ static int check(char *line) {
             return 1;
     }
     made[c]++;
-    if (c != CLASS && expected[0] == MARLINFRAY_REFUSED && expected[1] < 27)
-        refused[expected[1]]++;
+    if (c != CLASS && expected.kind == MARLINFRAY_REFUSED && expected.first < 27)
+        refused[expected.first]++;
     return 0;
 }
 

@@ -26,7 +26,7 @@ int main(void) {
 
     marlinfray_solve(jobs, rules, count, latest, jobs, times, jobs, &run);
     if (run.kind == MARLINFRAY_NONE) {
-        printf("NONE %" PRIu64 "\n", run.second);
+        printf("NONE %" PRIu64 " %" PRId32 " %" PRId32 "\n", run.second, run.before, run.after);
     } else {
         for (size_t j = 0; j < jobs; j++)
             printf("JOB %zu %" PRId32 "\n", j, times[j]);

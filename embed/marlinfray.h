@@ -11,7 +11,7 @@
  * What holds for every function:
  *
  *   Replies    Every call ends, and answers or refuses, whatever numbers and bytes it is given. All but marlinfray_class write their
- *              reply to *reply, all three words of it. A refusal leaves everything else that was lent as it was.
+ *              reply to *reply, all of it. A refusal leaves everything else that was lent as it was.
  *   Lending    What is lent is read and written during the call only: nothing is kept after it, and nothing needs to be given back.
  *              Only what is not const is written. A length counts elements, not bytes.
  *   Pointers   No pointer may be null, also where its length is 0. Each is aligned as C asks for its type, and points to as many
@@ -22,7 +22,7 @@
  *   State      Nothing is allocated, there is no state between calls, and no file, clock or setting is looked at. Of the C library
  *              memcpy, memset and their like are asked for, and nothing else. Every function is reentrant: threads and signal handlers
  *              may call at once, while none writes what another call has been lent.
- *   Stack      marlinfray_solve takes 121,704 bytes of stack, every other call fewer than 512.
+ *   Stack      marlinfray_solve takes 121,720 bytes of stack, every other call fewer than 512.
  */
 #ifndef MARLINFRAY_H
 #define MARLINFRAY_H
@@ -56,10 +56,14 @@ typedef struct {
     uint64_t steps, minutes;
 } marlinfray_tally;
 
-/* A reply. What `first` and `second` are is said at each function; where nothing is said they are 0. */
+/*
+ * A reply. What the numbers behind the kind are is said at each function; where nothing is said they are 0. `before` and `after` are
+ * those of a slip, which tells what a step took off: the job that it lowered, the job's time before the step and its time after it.
+ */
 typedef struct {
     uint64_t kind; /* one of the kinds below */
     uint64_t first, second;
+    int32_t before, after;
 } marlinfray_reply;
 
 /* Kinds of reply. */
@@ -156,7 +160,8 @@ void marlinfray_initial(size_t n, const int32_t *latest, size_t latest_len, int3
 
 /*
  * The hand step: lowers the third job of a broken rule to the later of the first two, plus k.
- * Done: times[z] is lowered, the tally has one step more, and as many minutes more as the job was lowered by.
+ * Done: times[z] is lowered, the tally has one step more, and as many minutes more as the job was lowered by. The reply is the
+ * slip: `first` is the job z, `before` its time before the step, and `after` its time now, which is below that.
  * Refused: 4, 5, then rule by rule 6 before 7; 8, where latest_len is n; 21, where latest_len or times_len is not n; 22; 23, where
  * the minutes are not the sum, over the jobs, of latest time minus time, or the steps are more than the minutes; 24; 25; 26.
  * From a fresh board with a tally of 0, 0 no calls on one book, in whatever order, bring about 22 or 23, while nobody else writes
@@ -169,8 +174,9 @@ void marlinfray_step(size_t n, const marlinfray_rule *rules, size_t rules_len, c
  * The bench run: from a fresh board, passes over the rules from 0 upward with a step on each broken one, until a pass without a step
  * or until a job falls below the floor. What the times were before does not matter.
  * Plan: `first` is the number of steps, and the times are the plan: every rule is kept, no time is past its job's latest, and each
- * job is as late as any such times have it. None: no times of any sign keep every rule; `first` is the number of steps, `second` the
- * job that fell, and the times are as the last step left them.
+ * job is as late as any such times have it. None: no times of any sign keep every rule; `first` is the number of steps, and the times
+ * are as the last step left them. The rest is that step's slip: `second` is the job that fell, `before` its time before the step, not
+ * below the floor, and `after` its time now, below the floor.
  * Refused: 4, 5, then rule by rule 6 before 7; 8, where latest_len is n; then 21, where latest_len or times_len is not n.
  */
 void marlinfray_solve(size_t n, const marlinfray_rule *rules, size_t rules_len, const int32_t *latest, size_t latest_len,

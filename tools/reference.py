@@ -11,7 +11,10 @@ A book is its job count, its rules and its latest times, one a job: 0 where the 
 The run is the bench run of the scope: from the latest times, passes over the rules from 0 upward, a step on each broken rule, an end
 after a pass without a step (a plan) or when a time falls below the floor (none). The floor is the smallest latest time minus K.
 
-A reply is the library's three words (embed/marlinfray.h): 0 and the answer, 1 for a broken rule or none, 2 and a refusal.
+A slip is a job, its time before a step and its time after it.
+
+A reply is the library's five words (embed/marlinfray.h): 0 and the answer, 1 for a broken rule or none, 2 and a refusal; the last two are
+the times before and after of a slip, 0 where the reply has none.
 """
 
 import itertools
@@ -66,19 +69,25 @@ def broken(rules, times):
     return [i for i, r in enumerate(rules) if times[r[2]] > left(r, times)]
 
 
+def lower(rule, times):
+    """A step on a rule, which changes the times: the slip."""
+    slip = rule[2], times[rule[2]], left(rule, times)
+    times[rule[2]] = slip[2]
+    return slip
+
+
 def run(rules, latest):
-    """The times at the end, the steps, and the job that fell or None."""
+    """The times at the end, the steps, and the slip of the last step where a job fell, or else None."""
     times, steps, lowest = list(latest), 0, floor(rules, latest)
     while True:
-        before = steps
+        begun = steps
         for rule in rules:
-            z = rule[2]
-            if times[z] > left(rule, times):
-                times[z] = left(rule, times)
+            if times[rule[2]] > left(rule, times):
+                slip = lower(rule, times)
                 steps += 1
-                if times[z] < lowest:
-                    return times, steps, z
-        if steps == before:
+                if slip[2] < lowest:
+                    return times, steps, slip
+        if steps == begun:
             return times, steps, None
 
 
@@ -86,16 +95,16 @@ def text(data):
     """What `latest` prints for a file."""
     reply, rules, latest = read(data, MOST_RULES, MOST_JOBS)
     if reply[0] == 2:
-        return "REFUSED %d %d\n" % reply[1:]
+        return "REFUSED %d %d\n" % reply[1:3]
     n = reply[1]
-    times, steps, fell = run(rules, latest)
+    times, steps, slip = run(rules, latest)
     lines = ["BOOK %d %d %d" % (n, len(rules), total(rules))]
-    if fell is None:
+    if slip is None:
         lines += ["JOB %d %d" % item for item in enumerate(times)]
         tight = [i for i, r in enumerate(rules) if left(r, times) == times[r[2]]]
         lines.append(" ".join(["TIGHT"] + [str(i) for i in tight]))
     else:
-        lines.append("NONE %d" % fell)
+        lines.append("NONE %d %d %d" % slip)
     return "\n".join(lines + ["STEPS %d" % steps]) + "\n"
 
 
@@ -123,11 +132,11 @@ def hand():
     rules, times, steps, minutes = [(0, 1, 0, -1), (0, 0, 1, -3)], [0, 0], 0, 0
     out = ""
     for number in (1, 0):
-        rule = rules[number]
         assert number in broken(rules, times)
-        minutes += times[rule[2]] - left(rule, times)
+        slip = lower(rules[number], times)
+        minutes += slip[1] - slip[2]
         steps += 1
-        times[rule[2]] = left(rule, times)
+        out += "SLIP %d %d %d\n" % slip
         out += "BOARD %d %d\nTALLY %d %d\n" % (times[0], times[1], steps, minutes)
     return out + "BROKEN %d\n" % broken(rules, times)[0]
 
@@ -136,30 +145,35 @@ def records(data, numbers):
     """A rule's record by its number: its length and its bytes."""
     out = ""
     for i in numbers:
-        _, at, size = record(data, i)
+        _, at, size, _, _ = record(data, i)
         part = data[at : at + size]
         out += " ".join(["RECORD", str(i), str(len(part))] + [str(b) for b in part]) + "\n"
     return out
 
 
-ORDERS = {
-    "DOWN": lambda turn, numbers: 1 - turn % 2,
-    "UP": lambda turn, numbers: turn % 2,
-    "FIRST": lambda turn, numbers: numbers[0],
-}
-
-
-def by_hand(rules, latest, order):
+def by_hand(order):
     """Hand steps in an order, until no rule is broken or a time is below the floor: the times and the steps."""
-    times, steps = list(latest), 0
-    for turn in itertools.count():
-        numbers = broken(rules, times)
-        if not numbers or min(times) < floor(rules, latest):
-            return times, steps
-        number = order(turn, numbers)
-        if number in numbers:
-            times[rules[number][2]] = left(rules[number], times)
-            steps += 1
+
+    def end(rules, latest):
+        times, steps = list(latest), 0
+        for turn in itertools.count():
+            numbers = broken(rules, times)
+            if not numbers or min(times) < floor(rules, latest):
+                return times, steps
+            number = order(turn, numbers)
+            if number in numbers:
+                lower(rules[number], times)
+                steps += 1
+
+    return end
+
+
+WAYS = {
+    "RUN": lambda rules, latest: run(rules, latest)[:2],
+    "DOWN": by_hand(lambda turn, numbers: 1 - turn % 2),
+    "UP": by_hand(lambda turn, numbers: turn % 2),
+    "FIRST": by_hand(lambda turn, numbers: numbers[0]),
+}
 
 
 def searched(keeping):
@@ -168,8 +182,8 @@ def searched(keeping):
 
 
 def small_books(n, count):
-    """All books of `count` rules with offsets -1 to 1, with latest times -2 to 0 that ascend, by hand steps in each order. The search is
-    over all times from -6 up to the latest times."""
+    """All books of `count` rules with offsets -1 to 1, with latest times -2 to 0 that ascend, by the bench run and by hand steps in each
+    order. The search is over all times from -6 up to the latest times."""
     rules = list(itertools.product(range(n), range(n), range(n), (-1, 0, 1)))
     times = list(itertools.product(range(-6, 1), repeat=n))
     keeping = {rule: {t for t in times if not broken([rule], t)} for rule in rules}
@@ -180,14 +194,15 @@ def small_books(n, count):
         books += [(b, latest, searched([under, *(keeping[rule] for rule in b)])) for latest, under in before.items()]
     nones = sum(plan is None for _, _, plan in books)
     out = ""
-    for name, order in ORDERS.items():
-        taken = differing = 0
+    for name, way in WAYS.items():
+        taken = minutes = differing = 0
         for b, latest, plan in books:
-            end, steps = by_hand(b, latest, order)
+            end, steps = way(b, latest)
             taken += steps
+            minutes += depth(latest, end)
             differing += min(end) >= floor(b, latest) if plan is None else end != plan
-        out += "JOBS %d RULES %d %s BOOKS %d PLANS %d NONES %d STEPS %d DIFFERING %d\n" % (
-            n, count, name, len(books), len(books) - nones, nones, taken, differing,
+        out += "JOBS %d RULES %d %s BOOKS %d PLANS %d NONES %d STEPS %d MINUTES %d DIFFERING %d\n" % (
+            n, count, name, len(books), len(books) - nones, nones, taken, minutes, differing,
         )
     return out
 
@@ -238,9 +253,14 @@ def scan(data):
     return None, latest, found
 
 
+def answered(kind, first=0, second=0, before=0, after=0):
+    """A reply, by those of its words that are not 0."""
+    return kind, first, second, before, after
+
+
 def refused(f):
     """The reply of a refusal, from its number and place."""
-    return (2,) + f
+    return answered(2, *f)
 
 
 def read(data, places, latest_places):
@@ -249,13 +269,13 @@ def read(data, places, latest_places):
     f, latest, found = scan(data)
     if not f and (places < len(found) or latest_places < len(latest)):
         f = 21, 0
-    return (refused(f), [], []) if f else ((0, len(latest), len(found)), [rule for _, _, rule in found], latest)
+    return (refused(f), [], []) if f else (answered(0, len(latest), len(found)), [rule for _, _, rule in found], latest)
 
 
 def record(data, number):
     """A rule's record: the byte where it begins and its length, both 0 where there is none."""
     f, _, found = scan(data)
-    return (0,) + found[number][:2] if not f and number < len(found) else (0, 0, 0)
+    return answered(0, *found[number][:2]) if not f and number < len(found) else answered(0)
 
 
 def fault(n, rules, latest, times):
@@ -280,7 +300,7 @@ def fault(n, rules, latest, times):
 def initial(n, latest, times):
     """The fresh board: the reply, and the times afterwards."""
     f = fault(n, [], latest, times)
-    return (refused(f), times) if f else ((0, 0, 0), list(latest))
+    return (refused(f), times) if f else (answered(0), list(latest))
 
 
 def solved(n, rules, latest, times):
@@ -288,8 +308,8 @@ def solved(n, rules, latest, times):
     f = fault(n, rules, latest, times)
     if f:
         return refused(f), times
-    after, steps, fell = run(rules, latest)
-    return ((0, steps, 0) if fell is None else (1, steps, fell)), after
+    after, steps, slip = run(rules, latest)
+    return answered(0, steps) if slip is None else answered(1, steps, *slip), after
 
 
 def kept(n, rules, latest, times):
@@ -297,14 +317,14 @@ def kept(n, rules, latest, times):
     if f:
         return refused(f)
     at = broken(rules, times)
-    return (1, at[0], 0) if at else (0, 0, 0)
+    return answered(1, at[0]) if at else answered(0)
 
 
 def tight(n, rules, latest, times, number):
     f = fault(n, rules, latest, times) or ((24, 0) if number >= len(rules) else None)
     if f:
         return refused(f)
-    return 0, int(left(rules[number], times) == times[rules[number][2]]), 0
+    return answered(0, int(left(rules[number], times) == times[rules[number][2]]))
 
 
 def depth(latest, times):
@@ -333,10 +353,9 @@ def step(n, rules, latest, times, tally, number):
         f = 26, 0
     if f:
         return refused(f), times, tally
-    rule = rules[number]
-    after = list(times)
-    after[rule[2]] = left(rule, times)
-    return (0, 0, 0), after, (tally[0] + 1, tally[1] + times[rule[2]] - left(rule, times))
+    times = list(times)
+    job, before, after = lower(rules[number], times)
+    return answered(0, job, 0, before, after), times, (tally[0] + 1, tally[1] + before - after)
 
 
 def write_plan(times, out, at):
@@ -345,7 +364,7 @@ def write_plan(times, out, at):
     if f:
         return refused(f), out
     part = b"".join(struct.pack("<2sHi", b"PL", *item) for item in enumerate(times))
-    return (0, 0, 0), out[:at] + part + out[at + len(part) :]
+    return answered(0), out[:at] + part + out[at + len(part) :]
 
 
 CLASSES = " IDLE", " IMPOSSIBLE", " ONE-ARMED", " TWO-ARMED"
@@ -372,7 +391,7 @@ def read_word(reply):
 
 
 def solved_word(reply):
-    return words(reply, " PLAN {}", " NONE {} {}")
+    return words(reply, " PLAN {}", " NONE {} {} {} {}")
 
 
 def kept_word(reply):
@@ -384,7 +403,7 @@ def tight_word(reply):
 
 
 def step_word(reply):
-    return words(reply, " STEPPED")
+    return words(reply, " STEPPED {0} {2} {3}")
 
 
 def fresh_word(reply):

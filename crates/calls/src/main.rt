@@ -56,7 +56,8 @@ fn hand(
     };
     for _ in 0..3 {
         for number in 0..=rules.len() {
-            let stepped = Said(step(n, rules, latest, times, &mut tally, number).map(|_| Stepped));
+            let said = step(n, rules, latest, times, &mut tally, number);
+            let stepped = Said(said.map(|off| Stepped(off)));
             print!(rt; " {stepped}")?;
         }
     }
@@ -133,7 +134,8 @@ fn step_of_l(rt: &impl Print) -> io::Result<()> {
         steps: 1,
         minutes: 3,
     };
-    let stepped = Said(step(2, &rules, &latest, &mut times, &mut tally, 0).map(|_| Stepped));
+    let said = step(2, &rules, &latest, &mut times, &mut tally, 0);
+    let stepped = Said(said.map(|off| Stepped(off)));
     let left = Minutes("TIMES", &times);
     let told = Told(tally);
     let kept = Said(first_violated(2, &rules, &latest, &times).map(|found| Kept(found)));
@@ -157,7 +159,8 @@ fn each_call(
         steps: 0,
         minutes: 0,
     };
-    let stepped = Said(step(n, rules, latest, board, &mut tally, 0).map(|_| Stepped));
+    let said = step(n, rules, latest, board, &mut tally, 0);
+    let stepped = Said(said.map(|off| Stepped(off)));
     let told = Told(tally);
     print!(rt; " {run} {kept} {tight} {fresh} {stepped} {told}")
 }
@@ -268,9 +271,8 @@ fn held(
     let board = Minutes("TIMES", times);
     let told = Told(tally);
     print!(rt; "HELD {last} {board} {told} {number}")?;
-    let stepped = Said(step(times.len(), &rules, latest, times, &mut tally, number).map(
-        |_| Stepped,
-    ));
+    let said = step(times.len(), &rules, latest, times, &mut tally, number);
+    let stepped = Said(said.map(|off| Stepped(off)));
     let left = Minutes("TIMES", times);
     let told = Told(tally);
     println!(rt; " {stepped} {left} {told}")

@@ -1,5 +1,5 @@
 // What the calls answer, in the words of the output.
-use planner::{Class, Refusal, Rule, Solved, Tally};
+use planner::{Class, Refusal, Rule, Slip, Solved, Tally};
 use std::fmt;
 use std::fmt::Display;
 
@@ -29,12 +29,25 @@ impl Display for Fresh {
     }
 }
 
+// A slip: a job, its time before and its time after.
 #[derive(Drop)]
-pub struct Stepped;
+pub struct Off(pub Slip);
+
+impl Display for Off {
+    fn fmt<W: fmt::Write>(&self, f: &mut fmt::Formatter<W>) -> fmt::Result {
+        let Slip { job, before, after } = self.0;
+        write!(f, "{job} {before} {after}")
+    }
+}
+
+// A hand step, by its slip.
+#[derive(Drop)]
+pub struct Stepped(pub Slip);
 
 impl Display for Stepped {
     fn fmt<W: fmt::Write>(&self, f: &mut fmt::Formatter<W>) -> fmt::Result {
-        write!(f, "STEPPED")
+        let off = Off(self.0);
+        write!(f, "STEPPED {off}")
     }
 }
 
@@ -70,7 +83,10 @@ impl Display for Run {
     fn fmt<W: fmt::Write>(&self, f: &mut fmt::Formatter<W>) -> fmt::Result {
         match self.0 {
             Solved::Plan(steps) => write!(f, "PLAN {steps}"),
-            Solved::None(steps, job) => write!(f, "NONE {steps} {job}"),
+            Solved::None(steps, slip) => {
+                let off = Off(slip);
+                write!(f, "NONE {steps} {off}")
+            }
         }
     }
 }

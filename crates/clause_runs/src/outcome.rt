@@ -5,11 +5,11 @@ use clauses::Clause;
 use maxatom::Arm;
 use run::run;
 
-// The steps; the job that fell below the floor, where one did; and the times left.
+// The steps; where a job fell below the floor, that job with its times before and after the step; and the times left.
 #[derive(Clone, Copy, PartialEq, Eq)]
 pub struct Outcome {
     pub steps: u64,
-    pub fallen: Option<u16>,
+    pub fallen: Option<(u16, i64, i64)>,
     pub times: [i64; 48],
 }
 
@@ -38,12 +38,13 @@ pub fn by_straight_passes(book: &Book) -> Option<Outcome> {
             let left = left_side(line, &times);
             let time = times.get_mut(line.target as usize)?;
             if left < *time {
+                let slip = (line.target, *time, left);
                 *time = left;
                 steps = steps.saturating_add(1);
                 if left < i64::from(book.floor) {
                     return Some(Outcome {
                         steps,
-                        fallen: Some(line.target),
+                        fallen: Some(slip),
                         times,
                     });
                 }
@@ -74,7 +75,11 @@ pub fn by_run(book: &Book) -> Option<Outcome> {
     }
     let (steps, fallen) = match run(clauses, book.floor, lent) {
         Ok(steps) => (steps, None),
-        Err(fall) => (fall.steps, Some(fall.job)),
+        Err(fall) => {
+            let slip = fall.slip;
+            let times = (i64::from(slip.before), i64::from(slip.after));
+            (fall.steps, Some((slip.job, times.0, times.1)))
+        }
     };
     Some(Outcome {
         steps,

@@ -13,6 +13,7 @@ use Rattle.maxatom.specs.Rule.{time_at, left_side, satisfied}
 use Rattle.maxatom.specs.Book.{Book, Each, AllSatisfied, Model, Plan, Under, floor}
 use Rattle.maxatom.specs.Accepted.{InBook, Accepted}
 use Rattle.maxatom.specs.declared.Rule.{Rule}
+use Rattle.maxatom.specs.declared.Slip.{Slip}
 use Rattle.maxatom.specs.Clauses.{clause_of}
 use Rattle.maxatom.proofs.Choose.{clash}
 use Rattle.maxatom.proofs.Integers.{le_false, by_test_not}
@@ -78,7 +79,7 @@ module _ {b : Book} (a : Accepted b) where
   -- a refused call
   stays : (state : State) (asked number : ℕ) → Reached b state →
       (Due b (record { asked = asked; said = refused number 0; before = state; after = state }) → ⊥) →
-      (◌≡◌ {A = Reply (Unit {0})} (refused number 0) (refused 24 0)) ⊎ ((◌≡◌ {A = Reply (Unit {0})} (refused number 0) (refused 25 0)) ⊎ (◌≡◌ {A = Reply (Unit {0})} (refused number 0) (refused 26 0))) →
+      (◌≡◌ {A = Reply Slip} (refused number 0) (refused 24 0)) ⊎ ((◌≡◌ {A = Reply Slip} (refused number 0) (refused 25 0)) ⊎ (◌≡◌ {A = Reply Slip} (refused number 0) (refused 26 0))) →
       Shown b (record { asked = asked; said = refused number 0; before = state; after = state })
   unfolding stepped accepts
   stays state asked number d not-due which =
@@ -91,7 +92,7 @@ module _ {b : Book} (a : Accepted b) where
         reached = d;
       }
 
-  entry : (state : State) (number : ℕ) → Reached b state → (called : Called) → View a state number called →
+  entry : (state : State) (number : ℕ) → Reached b state → (called : Called Slip) → View a state number called →
       Shown b (record { asked = number; said = called.said; before = state; after = called.after })
   unfolding stepped accepts took_off step_on
   entry state number d called (no_rule_lem h) = stays state number 24 d (λ due. omega (arith, due.of_book)) (inl refl)

@@ -215,8 +215,12 @@ module _ {A B : Type 0} (a : A) (b : B) where
   answered_append checks more e = skips_all b checks more (passed checks a (ap accepts e))
 
 -- and back
-pub times_accepted : {A : Type 0} (a : A) (b : Book) (times : List ℤ) → reply (times_checks b times) a ≡ answer a → Accepted b × (length times ≡ b.jobs)
-unfolding times_checks accepts
-times_accepted a b times e =
-    let p = each_left Passes (book_checks b) _ (passed (times_checks b times) a (ap accepts e)) in
+pub times_all_pass : (b : Book) (times : List ℤ) → Each Passes (times_checks b times) → Accepted b × (length times ≡ b.jobs)
+unfolding times_checks
+times_all_pass b times e =
+    let p = each_left Passes (book_checks b) _ e in
     (accepted b p.0, eqb-true (length times) b.jobs (not-false _ p.1.0))
+
+pub times_accepted : {A : Type 0} (a : A) (b : Book) (times : List ℤ) → reply (times_checks b times) a ≡ answer a → Accepted b × (length times ≡ b.jobs)
+unfolding accepts
+times_accepted a b times e = times_all_pass b times (passed (times_checks b times) a (ap accepts e))

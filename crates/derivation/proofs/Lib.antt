@@ -2,6 +2,7 @@ pub mod Checks
 pub mod Refusing
 pub mod Reached
 pub mod AnyOrder
+pub mod Slips
 pub mod Passes
 pub mod Exact
 pub mod RunCalls

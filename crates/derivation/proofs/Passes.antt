@@ -1,13 +1,13 @@
 -- The bench run is its round-robin list of hand steps, and ends within as many passes as its bound of steps, and one more. Assumes nothing.
 use mathlib.Core.Path.{◌≡◌, refl, sym, ap, subst, ◌∙◌}
 use mathlib.Core.Bool.{Bool, true, false, cond}
-use mathlib.Core.List.{List, [], ◌∷◌, ◌++◌}
+use mathlib.Core.List.{List, [], ◌∷◌, ◌++◌, append_assoc}
 use Prim.Native.Nat.{ℕ, zero, suc, ◌+◌, ◌<◌, ◌≤◌}
 use native.Mathlib.Numerals.{add-one}
 use native.Mathlib.Omega.{arith}
 use lib.Dec.{eqb}
 use lib.ListN.{length, set, drop}
-use lib.IntN.{ℤ}
+use lib.IntN.{ℤ, pos}
 use lib.Signed.{◌≤ℤ◌, ◌<ℤ◌, lt_z}
 use borrow.Author.Tests.{eqb-true, eqb-false}
 use Rattle.std.specs.Prelude.{Option, Some, None}
@@ -16,6 +16,7 @@ use Rattle.maxatom.specs.Rule.{time_at, left_side, satisfied}
 use Rattle.maxatom.specs.Book.{Book, AllSatisfied, floor}
 use Rattle.maxatom.specs.Accepted.{InBook, Accepted}
 use Rattle.maxatom.specs.declared.Rule.{Rule}
+use Rattle.maxatom.specs.declared.Slip.{Slip}
 use Rattle.maxatom.specs.Clauses.{Clause, clause_of, clauses_of}
 use Rattle.maxatom.specs.Clauses as Test
 use Rattle.maxatom.specs.Runs.{Pass, pass, End, planned, fell, unfinished, Run, passes}
@@ -24,10 +25,10 @@ use Rattle.maxatom.proofs.Integers.{le_read, lt_read, lt_true, lt_false, by_test
 use Rattle.maxatom.proofs.Lists.{set_time}
 use Rattle.maxatom.proofs.Derivations.{longest_high}
 use Rattle.maxatom.proofs.Rules.{left_same, setting}
-use Rattle.derivation.specs.Step.{State, rule_at, below_floor, step_on, Called, step_call}
+use Rattle.derivation.specs.Step.{State, rule_at, below_floor, slip_of, step_on, Called, step_call}
 use Rattle.derivation.specs.Play.{play, end_state, up_from, rounds}
 use Rattle.derivation.specs.Run.{pass_bound}
-use Rattle.derivation.proofs.Reached.{Reached, high_test, test_high, floor_low, View, no_rule_lem, too_low, kept, steps, view}
+use Rattle.derivation.proofs.Reached.{Reached, high_test, test_high, floor_low, size_is, View, no_rule_lem, too_low, kept, steps, view}
 use Rattle.derivation.proofs.AnyOrder.{each_at, reached_step, allowed, played}
 
 -- the state after a list of calls
@@ -41,7 +42,7 @@ run_append b state [] ys = refl
 run_append b state (x ∷ xs) ys = run_append b (step_call b state x).after xs ys
 
 module _ {b : Book} (a : Accepted b) where
-  pub after_step : {state : State} {number : ℕ} {called : Called} → View a state number called → number < length b.rules →
+  pub after_step : {state : State} {number : ℕ} {called : Called Slip} → View a state number called → number < length b.rules →
       below_floor (floor b) state.times ≡ false → satisfied (rule_at b.rules number) state.times ≡ false →
       called.after ≡ step_on (rule_at b.rules number) state
   after_step (no_rule_lem h) i b s = absurd (omega arith)
@@ -49,7 +50,7 @@ module _ {b : Book} (a : Accepted b) where
   after_step (kept h above sat) i b s = clash sat s
   after_step (steps h above violated) i b s = refl
 
-  after_stay : {state : State} {number : ℕ} {called : Called} → View a state number called →
+  after_stay : {state : State} {number : ℕ} {called : Called Slip} → View a state number called →
       (number < length b.rules → below_floor (floor b) state.times ≡ false → satisfied (rule_at b.rules number) state.times ≡ false → ⊥) →
       called.after ≡ state
   after_stay (no_rule_lem h) n = refl
@@ -110,9 +111,58 @@ pub pass_rule : (low : ℤ) (r : Rule) (cs : List Clause) (times : List ℤ) (co
     let lowered = set times r.z (left_side r times) in
     pass low (clause_of r ∷ cs) times count
     ≡ cond (satisfied r times) (pass low cs times count)
-    (cond (lt_z (left_side r times) low) (record { times = lowered; steps = count + 1; fallen = Some r.z }) (pass low cs lowered (count + 1)))
+    (cond (lt_z (left_side r times) low) (record { times = lowered; steps = count + 1; fallen = Some (slip_of r times) }) (pass low cs lowered (count + 1)))
 unfolding pass Test.kept satisfied
 pass_rule low r cs times count = rw (left_same r times) refl
+
+-- a fall: the last hand step of a list that stepped, from a state that shows no fall, and its slip
+pub record Falls (b : Book) (state : State) (calls : List ℕ) (times : List ℤ) (steps : ℕ) (slip : Slip) : Type 0 where
+  pub earlier : List ℕ
+  pub number : ℕ
+  pub rest : List ℕ
+  pub of_calls : calls ≡ earlier ++ number ∷ rest
+  pub high : below_floor (floor b) (run_through b state earlier).times ≡ false
+  pub one_less : (run_through b state earlier).tally.steps + 1 ≡ steps
+  pub of_book : slip.job < b.jobs
+  pub size : length (run_through b state earlier).times ≡ b.jobs
+  pub before_is : slip.before ≡ time_at (run_through b state earlier).times slip.job
+  pub stored : times ≡ set (run_through b state earlier).times slip.job slip.after
+  pub low : slip.after <ℤ floor b
+
+-- with calls before it, and with calls behind it
+module _ {b : Book} {state : State} {calls : List ℕ} {times : List ℤ} {steps : ℕ} {slip : Slip} where
+  pub falls_after : (from : State) (first : List ℕ) → run_through b from first ≡ state → Falls b state calls times steps slip → Falls b from (first ++ calls) times steps slip
+  falls_after from first e f =
+      let joined : run_through b from (first ++ f.earlier) ≡ run_through b state f.earlier = run_append b from first f.earlier ∙ ap (λ (s : State). run_through b s f.earlier) e in
+      record {
+        earlier = first ++ f.earlier;
+        number = f.number;
+        rest = f.rest;
+        of_calls = ap (λ (l : List ℕ). first ++ l) f.of_calls ∙ sym (append_assoc first f.earlier (f.number ∷ f.rest));
+        high = rw joined f.high;
+        one_less = rw joined f.one_less;
+        of_book = f.of_book;
+        size = rw joined f.size;
+        before_is = rw joined f.before_is;
+        stored = rw joined f.stored;
+        low = f.low;
+      }
+
+  pub falls_before : (more : List ℕ) → Falls b state calls times steps slip → Falls b state (calls ++ more) times steps slip
+  falls_before more f =
+      record {
+        earlier = f.earlier;
+        number = f.number;
+        rest = f.rest ++ more;
+        of_calls = ap (λ (l : List ℕ). l ++ more) f.of_calls ∙ append_assoc f.earlier (f.number ∷ f.rest) more;
+        high = f.high;
+        one_less = f.one_less;
+        of_book = f.of_book;
+        size = f.size;
+        before_is = f.before_is;
+        stored = f.stored;
+        low = f.low;
+      }
 
 -- what a pass over the last rules is, from a state that shows no fall
 pub record PassIs (b : Book) (rest : List Rule) (state : State) (calls : List ℕ) (w : Pass) : Type 0 where
@@ -121,10 +171,10 @@ pub record PassIs (b : Book) (rest : List Rule) (state : State) (calls : List �
   pub more : state.tally.steps ≤ w.steps
   pub still : w.steps ≡ state.tally.steps → AllSatisfied rest state.times × (w.times ≡ state.times)
   pub above : w.fallen ≡ None → below_floor (floor b) w.times ≡ false
-  pub below : (job : ℕ) → w.fallen ≡ Some job → below_floor (floor b) w.times ≡ true
-  pub fell_at : (job : ℕ) → w.fallen ≡ Some job → (job < b.jobs) × (time_at w.times job <ℤ floor b)
+  pub below : (slip : Slip) → w.fallen ≡ Some slip → below_floor (floor b) w.times ≡ true
+  pub fell_at : (slip : Slip) → w.fallen ≡ Some slip → Falls b state calls w.times w.steps slip
 
-some_is : {i j : ℕ} → Some i ≡ Some j → i ≡ j
+some_is : {s t : Slip} → Some s ≡ Some t → s ≡ t
 some_is e = cc
 
 module _ {b : Book} (a : Accepted b) where
@@ -138,8 +188,8 @@ module _ {b : Book} (a : Accepted b) where
         more = omega arith;
         still = λ q. (tt, refl);
         above = λ q. above;
-        below = λ job q. absurd (none-some job q);
-        fell_at = λ job q. absurd (none-some job q);
+        below = λ slip q. absurd (none-some slip q);
+        fell_at = λ slip q. absurd (none-some slip q);
       }
   pass_is (r ∷ rest) i state d above e =
       let q = drop_at b.rules i r rest e in
@@ -154,7 +204,7 @@ module _ {b : Book} (a : Accepted b) where
       lowered = set state.times r.z (left_side r state.times)
 
       dropped : Pass
-      dropped = record { times = lowered; steps = state.tally.steps + 1; fallen = Some r.z }
+      dropped = record { times = lowered; steps = state.tally.steps + 1; fallen = Some (slip_of r state.times) }
 
       go : (sat low : Bool) → satisfied r state.times ≡ sat → lt_z (left_side r state.times) (floor b) ≡ low → i < length b.rules → rule_at b.rules i ≡ r →
           ((s : State) → Reached b s → below_floor (floor b) s.times ≡ false → PassIs b rest s next (pass (floor b) (clauses_of rest) s.times s.tally.steps)) →
@@ -170,7 +220,7 @@ module _ {b : Book} (a : Accepted b) where
             still = λ k. let w = ih.still k in ((p, w.0), w.1);
             above = ih.above;
             below = ih.below;
-            fell_at = ih.fell_at;
+            fell_at = λ slip k. falls_after state (i ∷ []) same (ih.fell_at slip k);
           }
       go false true p q h at on =
           let violated : satisfied (rule_at b.rules i) state.times ≡ false = rw at p in
@@ -178,16 +228,27 @@ module _ {b : Book} (a : Accepted b) where
           let low : below_floor (floor b) (step_on r state).times ≡ true = rw at at (falls_below a d i h above violated (rw at q)) in
           let same : (step_call b state i).after ≡ step_on r state = rw at at (after_step a (view a state i d) h above violated) in
           let end : run_through b state (i ∷ next) ≡ step_on r state = ap (λ (s : State). run_through b s next) same ∙ stay_low a (step_on r state) down low next in
-          let left : time_at (step_on r state).times r.z ≡ left_side r state.times = rw at at (allowed a d i h above violated) in
           record {
             times_is = ap (λ (s : State). s.times) end;
             steps_is = ap (λ (s : State). s.tally.steps) end;
             more = omega arith;
             still = λ k. absurd (omega (arith, k));
-            above = λ k. absurd (none-some r.z (sym k));
-            below = λ job k. low;
-            fell_at = λ job k. subst (λ (j : ℕ). (j < b.jobs) × (time_at lowered j <ℤ floor b)) (some_is k)
-                ((rw at at (each_at (InBook b.jobs) b.rules i h a.rules_in).third), rw left (lt_true q));
+            above = λ k. absurd (none-some (slip_of r state.times) (sym k));
+            below = λ slip k. low;
+            fell_at = λ slip k. subst (Falls b state (i ∷ next) lowered (state.tally.steps + 1)) (some_is k)
+                (record {
+                  earlier = [];
+                  number = i;
+                  rest = next;
+                  of_calls = refl;
+                  high = above;
+                  one_less = refl;
+                  of_book = rw at at (each_at (InBook b.jobs) b.rules i h a.rules_in).third;
+                  size = size_is a d;
+                  before_is = refl;
+                  stored = refl;
+                  low = lt_true q;
+                });
           }
       go false false p q h at on =
           let violated : satisfied (rule_at b.rules i) state.times ≡ false = rw at p in
@@ -201,7 +262,7 @@ module _ {b : Book} (a : Accepted b) where
             still = λ k. absurd (omega (arith, k, ih.more));
             above = ih.above;
             below = ih.below;
-            fell_at = ih.fell_at;
+            fell_at = λ slip k. falls_after state (i ∷ []) same (ih.fell_at slip k);
           }
 
 -- what n passes are
@@ -209,14 +270,17 @@ pub record PassesAre (b : Book) (state : State) (n : ℕ) (w : Run) : Type 0 whe
   pub times_is : (run_through b state (rounds n (length b.rules))).times ≡ w.times
   pub steps_is : (run_through b state (rounds n (length b.rules))).tally.steps ≡ w.steps
   pub planned_is : w.end ≡ planned → AllSatisfied b.rules w.times
-  pub fell_at : (job : ℕ) → w.end ≡ fell job → (job < b.jobs) × (time_at w.times job <ℤ floor b)
+  pub fell_at : (slip : Slip) → w.end ≡ fell slip → Falls b state (rounds n (length b.rules)) w.times w.steps slip
   pub ends : pass_bound b ≤ n + state.tally.steps → w.end ≡ unfinished → ⊥
 
-fell_is : {i j : ℕ} → fell i ≡ fell j → i ≡ j
+fell_is : {s t : Slip} → fell s ≡ fell t → s ≡ t
 fell_is e = cc
 
+no_slip : Slip
+no_slip = record { job = 0; before = pos 0; after = pos 0 }
+
 -- three ways to stand
-ends_apart : {j : ℕ} → ((planned ≡ fell j) → ⊥) × ((planned ≡ unfinished) → ⊥) × ((fell j ≡ unfinished) → ⊥)
+ends_apart : {j : Slip} → ((planned ≡ fell j) → ⊥) × ((planned ≡ unfinished) → ⊥) × ((fell j ≡ unfinished) → ⊥)
 ends_apart =
     ((λ e. let z : ◌≡◌ {A = ℕ} 0 1 = cc in omega arith), (λ e. let z : ◌≡◌ {A = ℕ} 0 1 = cc in omega arith), (λ e. let z : ◌≡◌ {A = ℕ} 0 1 = cc in omega arith))
 
@@ -228,8 +292,8 @@ module _ {b : Book} (a : Accepted b) where
       record {
         times_is = refl;
         steps_is = refl;
-        planned_is = λ e. absurd ((ends_apart {j = 0}).1 (sym e));
-        fell_at = λ job e. absurd (ends_apart.2 (sym e));
+        planned_is = λ e. absurd ((ends_apart {j = no_slip}).1 (sym e));
+        fell_at = λ slip e. absurd (ends_apart.2 (sym e));
         ends = λ few e. omega (arith, longest_high (setting a) d (test_high (floor b) state.times (floor_low a) above));
       }
   passes_are (suc n) state d above =
@@ -256,17 +320,17 @@ module _ {b : Book} (a : Accepted b) where
       ended : End → Run
       ended end = record { times = w.times; steps = w.steps; end = end }
 
-      go : (o : Option ℕ) (c : Bool) → w.fallen ≡ o → eqb w.steps state.tally.steps ≡ c → PassIs b b.rules state calls w →
+      go : (o : Option Slip) (c : Bool) → w.fallen ≡ o → eqb w.steps state.tally.steps ≡ c → PassIs b b.rules state calls w →
           (below_floor (floor b) w.times ≡ false → PassesAre b mid n (passes n (floor b) (clauses_of b.rules) mid.times mid.tally.steps)) →
           PassesAre b state (suc n)
-          (elim o [ Some job ↦ ended (fell job) | None ↦ cond c (ended planned) (passes n (floor b) (clauses_of b.rules) w.times w.steps) ])
-      go (Some job) c e g p on =
-          let end = joined ∙ stay_low a mid reached (rw p.times_is (p.below job e)) (rounds n (length b.rules)) in
+          (elim o [ Some slip ↦ ended (fell slip) | None ↦ cond c (ended planned) (passes n (floor b) (clauses_of b.rules) w.times w.steps) ])
+      go (Some slip) c e g p on =
+          let end = joined ∙ stay_low a mid reached (rw p.times_is (p.below slip e)) (rounds n (length b.rules)) in
           record {
             times_is = ap (λ (s : State). s.times) end ∙ p.times_is;
             steps_is = ap (λ (s : State). s.tally.steps) end ∙ p.steps_is;
             planned_is = λ q. absurd (ends_apart.0 (sym q));
-            fell_at = λ j q. p.fell_at j (e ∙ ap Some (fell_is q));
+            fell_at = λ last q. falls_before (rounds n (length b.rules)) (p.fell_at last (e ∙ ap Some (fell_is q)));
             ends = λ few q. ends_apart.2 q;
           }
       go None true e g p on =
@@ -277,8 +341,8 @@ module _ {b : Book} (a : Accepted b) where
             times_is = ap (λ (s : State). s.times) end ∙ p.times_is;
             steps_is = ap (λ (s : State). s.tally.steps) end ∙ p.steps_is;
             planned_is = λ q. sat;
-            fell_at = λ job q. absurd (ends_apart.0 q);
-            ends = λ few q. (ends_apart {j = 0}).1 q;
+            fell_at = λ slip q. absurd (ends_apart.0 q);
+            ends = λ few q. (ends_apart {j = no_slip}).1 q;
           }
       go None false e g p on =
           let same : passes n (floor b) (clauses_of b.rules) mid.times mid.tally.steps ≡ passes n (floor b) (clauses_of b.rules) w.times w.steps =
@@ -288,6 +352,6 @@ module _ {b : Book} (a : Accepted b) where
             times_is = ap (λ (s : State). s.times) joined ∙ ih.times_is;
             steps_is = ap (λ (s : State). s.tally.steps) joined ∙ ih.steps_is;
             planned_is = ih.planned_is;
-            fell_at = ih.fell_at;
+            fell_at = λ slip q. falls_after state calls refl (ih.fell_at slip q);
             ends = λ few q. ih.ends (omega (arith, p.steps_is, p.more, eqb-false w.steps state.tally.steps g)) q;
           }

@@ -14,6 +14,7 @@ use Rattle.std.proofs.lemmas.Bool.{and_from}
 use Rattle.maxatom.specs.Rule.{time_at, satisfied}
 use Rattle.maxatom.specs.Book.{Book, Each, total, smallest, floor}
 use Rattle.maxatom.specs.Accepted.{Accepted}
+use Rattle.maxatom.specs.declared.Slip.{Slip}
 use Rattle.maxatom.specs.Clauses.{clauses_of}
 use Rattle.maxatom.proofs.Choose.{clash}
 use Rattle.maxatom.proofs.Integers.{up, dn, le_read, le_make, eq_make, add_parts, neg_parts, true_le, lt_false, false_lt, true_eq}
@@ -23,34 +24,34 @@ use Rattle.maxatom.proofs.Clauses.{Below}
 use Rattle.maxatom.proofs.Derivations.{Derivation, same_length, under_latest, few_steps, not_far, minutes_lost, floor_under}
 use Rattle.maxatom.proofs.Rules.{smallest_least, smallest_holds, floor_parts, weighed, setting}
 use Rattle.derivation.specs.Refusals.{Reply, refused, answer, Check, reply, verdict, lent, times_checks}
-use Rattle.derivation.specs.Step.{State, rule_at, lowest, in_range, below_floor, sum_z, fits, rule_step_checks, step_checks, step_on, Called, called_by, step_call}
+use Rattle.derivation.specs.Step.{State, rule_at, lowest, in_range, below_floor, sum_z, fits, rule_step_checks, step_checks, slip_of, step_on, Called, called_by, step_call}
 use Rattle.derivation.proofs.Checks.{neither_from, says, skips, skips_all, refused_append, times_pass}
 
 abbrev pub Reached : Book → State → Type 0
 Reached b state = Derivation (clauses_of b.rules) (floor b) b.latest state.times state.tally.steps state.tally.minutes
 
 -- a call under checks, check by check
-module _ (c : Check) (checks : List Check) (before after : State) where
-  pub call_says : c.fails ≡ true → called_by (c ∷ checks) before after ≡ record { said = refused c.number c.place; after = before }
+module _ {A : Type 0} (c : Check) (checks : List Check) (a : A) (before after : State) where
+  pub call_says : c.fails ≡ true → called_by (c ∷ checks) a before after ≡ record { said = refused c.number c.place; after = before }
   unfolding called_by lent
-  call_says e = ap (λ (s : Reply (Unit {0})). record { said = s; after = lent s before after }) (says tt c checks e)
+  call_says e = ap (λ (s : Reply A). record { said = s; after = lent s before after }) (says a c checks e)
 
-  pub call_skips : c.fails ≡ false → called_by (c ∷ checks) before after ≡ called_by checks before after
+  pub call_skips : c.fails ≡ false → called_by (c ∷ checks) a before after ≡ called_by checks a before after
   unfolding called_by
-  call_skips e = ap (λ (s : Reply (Unit {0})). record { said = s; after = lent s before after }) (skips tt c checks e)
+  call_skips e = ap (λ (s : Reply A). record { said = s; after = lent s before after }) (skips a c checks e)
 
-module _ (checks more : List Check) (before after : State) where
-  pub call_passes : Each (λ c. c.fails ≡ false) checks → called_by (checks ++ more) before after ≡ called_by more before after
+module _ {A : Type 0} (checks more : List Check) (a : A) (before after : State) where
+  pub call_passes : Each (λ c. c.fails ≡ false) checks → called_by (checks ++ more) a before after ≡ called_by more a before after
   unfolding called_by
-  call_passes e = ap (λ (s : Reply (Unit {0})). record { said = s; after = lent s before after }) (skips_all tt checks more e)
+  call_passes e = ap (λ (s : Reply A). record { said = s; after = lent s before after }) (skips_all a checks more e)
 
-  pub call_refused : {number place : ℕ} → verdict checks ≡ refused number place → called_by (checks ++ more) before after ≡ record { said = refused number place; after = before }
+  pub call_refused : {number place : ℕ} → verdict checks ≡ refused number place → called_by (checks ++ more) a before after ≡ record { said = refused number place; after = before }
   unfolding called_by lent
-  call_refused e = ap (λ (s : Reply (Unit {0})). record { said = s; after = lent s before after }) (refused_append tt tt checks more e)
+  call_refused e = ap (λ (s : Reply A). record { said = s; after = lent s before after }) (refused_append tt a checks more e)
 
-pub call_done : (before after : State) → called_by [] before after ≡ record { said = answer tt; after = after }
+pub call_done : {A : Type 0} (a : A) (before after : State) → called_by [] a before after ≡ record { said = answer a; after = after }
 unfolding called_by lent reply
-call_done before after = refl
+call_done a before after = refl
 
 -- the tests on a board, as facts
 pub high_test : (f : ℤ) (times : List ℤ) → ((job : ℕ) → f ≤ℤ time_at times job) → below_floor f times ≡ false
@@ -122,22 +123,22 @@ module _ {b : Book} (a : Accepted b) where
             ))
 
     -- what a call from here does
-    pub call_is : (number : ℕ) → step_call b state number ≡ called_by (rule_step_checks b state number) state (step_on (rule_at b.rules number) state)
+    pub call_is : (number : ℕ) → step_call b state number ≡ called_by (rule_step_checks b state number) (slip_of (rule_at b.rules number) state.times) state (step_on (rule_at b.rules number) state)
     unfolding step_call step_checks
     call_is number =
-        call_passes (times_checks b state.times) _ _ _ (times_pass state.times a size_is)
-        ∙ call_skips _ _ _ _ (rw range_is)
-        ∙ call_skips _ _ _ _ (rw fits_is)
+        call_passes (times_checks b state.times) _ _ _ _ (times_pass state.times a size_is)
+        ∙ call_skips _ _ _ _ _ (rw range_is)
+        ∙ call_skips _ _ _ _ _ (rw fits_is)
 
   module _ (state : State) (number : ℕ) where
     -- the four things that a call does
-    pub data View : Called → Type 0 where
+    pub data View : Called Slip → Type 0 where
       no_rule_lem : length b.rules ≤ number → View (record { said = refused 24 0; after = state })
       too_low : number < length b.rules → below_floor (floor b) state.times ≡ true → View (record { said = refused 25 0; after = state })
       kept : number < length b.rules → below_floor (floor b) state.times ≡ false → satisfied (rule_at b.rules number) state.times ≡ true →
           View (record { said = refused 26 0; after = state })
       steps : number < length b.rules → below_floor (floor b) state.times ≡ false → satisfied (rule_at b.rules number) state.times ≡ false →
-          View (record { said = answer tt; after = step_on (rule_at b.rules number) state })
+          View (record { said = answer (slip_of (rule_at b.rules number) state.times); after = step_on (rule_at b.rules number) state })
 
     pub view : Reached b state → View (step_call b state number)
     view d = go (leb (length b.rules) number) (below_floor (floor b) state.times) (satisfied (rule_at b.rules number) state.times) refl refl refl
@@ -145,13 +146,13 @@ module _ {b : Book} (a : Accepted b) where
         next : State
         next = step_on (rule_at b.rules number) state
 
-        by : (called : Called) → called_by (rule_step_checks b state number) state next ≡ called → View called → View (step_call b state number)
+        by : (called : Called Slip) → called_by (rule_step_checks b state number) (slip_of (rule_at b.rules number) state.times) state next ≡ called → View called → View (step_call b state number)
         by called e v = subst View (sym (call_is d number ∙ e)) v
 
         go : (p q r : Bool) → leb (length b.rules) number ≡ p → below_floor (floor b) state.times ≡ q → satisfied (rule_at b.rules number) state.times ≡ r →
             View (step_call b state number)
-        go true q r e f g = by _ (call_says _ _ _ _ e) (no_rule_lem (leb-true (length b.rules) number e))
-        go false true r e f g = by _ (call_skips _ _ _ _ e ∙ call_says _ _ _ _ f) (too_low (leb-false (length b.rules) number e) f)
-        go false false true e f g = by _ (call_skips _ _ _ _ e ∙ (call_skips _ _ _ _ f ∙ call_says _ _ _ _ g)) (kept (leb-false (length b.rules) number e) f g)
+        go true q r e f g = by _ (call_says _ _ _ _ _ e) (no_rule_lem (leb-true (length b.rules) number e))
+        go false true r e f g = by _ (call_skips _ _ _ _ _ e ∙ call_says _ _ _ _ _ f) (too_low (leb-false (length b.rules) number e) f)
+        go false false true e f g = by _ (call_skips _ _ _ _ _ e ∙ (call_skips _ _ _ _ _ f ∙ call_says _ _ _ _ _ g)) (kept (leb-false (length b.rules) number e) f g)
         go false false false e f g =
-            by _ (call_skips _ _ _ _ e ∙ (call_skips _ _ _ _ f ∙ (call_skips _ _ _ _ g ∙ call_done _ _))) (steps (leb-false (length b.rules) number e) f g)
+            by _ (call_skips _ _ _ _ _ e ∙ (call_skips _ _ _ _ _ f ∙ (call_skips _ _ _ _ _ g ∙ call_done _ _ _))) (steps (leb-false (length b.rules) number e) f g)

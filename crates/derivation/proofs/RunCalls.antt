@@ -15,6 +15,7 @@ use Rattle.derivation.specs.Inner.{SolvedAs}
 use Rattle.derivation.specs.declared.Refusal.{Refusal}
 use Rattle.derivation.specs.declared.Solved.{Solved}
 use Rattle.derivation.proofs.Checks.{accepting, passed, refused_same, answered_same, accepted_iff, times_accepted}
+use Rattle.derivation.proofs.Slips.{answer_is}
 use Rattle.derivation.proofs.Exact.{demand_2, run_facts}
 
 module _ (b : Book) (buffer : List ℤ) where
@@ -36,16 +37,13 @@ module _ (b : Book) (buffer : List ℤ) where
       let q = answered_same tt (answer_of (solve b)) (times_checks b buffer) e in
       (ap answer s.said ∙ sym q, s.left ∙ sym (lent_by q))
 
-  same_answer : {v w : Answer} → answer v ≡ answer w → v ≡ w
-  same_answer e = cc
-
   -- an answer is the run's, of a book that is not refused, and the times are those that the run left
   pub answered : (w : Answer) → run_reply b buffer ≡ answer w →
       NotRefused b × (answer_of (solve b) ≡ w) × (run_times b buffer ≡ (solve b).times)
   unfolding run_reply accepts lent
   answered w e =
       let whole = accepting (times_checks b buffer) (answer_of (solve b)) (passed (times_checks b buffer) (answer_of (solve b)) (ap accepts e)) in
-      ((accepted_iff b).1 (times_accepted (answer_of (solve b)) b buffer whole).0, same_answer (sym whole ∙ e), lent_by whole)
+      ((accepted_iff b).1 (times_accepted (answer_of (solve b)) b buffer whole).0, answer_is (sym whole ∙ e), lent_by whole)
 
   -- so the equations say what plan and none mean
   means : (r : Result Solved Refusal) (t : List ℤ) → solved_reply r ≡ run_reply b buffer → t ≡ run_times b buffer → Meaning b r t
@@ -55,10 +53,10 @@ module _ (b : Book) (buffer : List ℤ) where
             let (passing, w, q) = answered _ (sym said ∙ ap solved_reply x) in
             let end : (solve b).end ≡ planned = ap (λ (v : Answer). v.end) w in
             (rw (left, q) ((demand_2 b passing).plan_is end), rw (ap (λ (v : Answer). v.steps) w) at ((run_facts passing).plan_steps end));
-        none = λ n job x.
+        none = λ n slip x.
             let (passing, w, q) = answered _ (sym said ∙ ap solved_reply x) in
-            let end : (solve b).end ≡ fell job = ap (λ (v : Answer). v.end) w in
-            ((demand_2 b passing).none_iff.0 (job, end), rw (ap (λ (v : Answer). v.steps) w) at ((run_facts passing).none_steps job end));
+            let end : (solve b).end ≡ fell slip = ap (λ (v : Answer). v.end) w in
+            ((demand_2 b passing).none_iff.0 (slip, end), rw (ap (λ (v : Answer). v.steps) w) at ((run_facts passing).none_steps slip end));
       }
 
   by_equations : (r : Result Solved Refusal) (t : List ℤ) → (solved_reply r ≡ run_reply b buffer) × (t ≡ run_times b buffer) → SolvedCall b buffer r t

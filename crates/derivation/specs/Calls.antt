@@ -38,7 +38,7 @@ initial_reply jobs latest times = verdict (initial_checks jobs latest times)
 unfoldable pub initial_times : ℕ → List ℤ → List ℤ → List ℤ
 initial_times jobs latest times = lent (initial_reply jobs latest times) times latest
 
--- what the bench run answers: the number of steps, and plan, or none with the job that fell
+-- what the bench run answers: the number of steps, and plan, or none with the slip of the last step
 pub record Answer : Type 0 where
   pub steps : ℕ
   pub end : End

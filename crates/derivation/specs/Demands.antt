@@ -1,11 +1,12 @@
 -- Demands 2 and 3, each as one statement. Their proofs: proofs/Exact.antt and proofs/AnyOrder.antt.
-use Rattle.std.specs.Prelude.{◌≡◌, ◌↔◌, ◌⊎◌, true, false, List, ℕ, ◌+◌, ◌*◌, ◌<◌, ◌≤◌, length, ℤ, ◌<ℤ◌}
+use Rattle.std.specs.Prelude.{◌≡◌, ◌↔◌, ◌⊎◌, true, false, List, ◌∷◌, ◌++◌, ℕ, ◌+◌, ◌*◌, ◌<◌, ◌≤◌, length, set, ℤ, ◌≤ℤ◌, ◌<ℤ◌}
 use Rattle.maxatom.specs.Rule.{time_at, left_side, satisfied}
 use Rattle.maxatom.specs.Book.{Book, zeros, Each, AllSatisfied, Satisfiable, Plan, Under, total, minus, floor}
 use Rattle.maxatom.specs.declared.Rule.{Rule}
+use Rattle.maxatom.specs.declared.Slip.{Slip}
 use Rattle.maxatom.specs.Runs.{planned, fell, unfinished}
-use Rattle.derivation.specs.Refusals.{refused, NotRefused}
-use Rattle.derivation.specs.Step.{State, initial, rule_at, lowest, below_floor}
+use Rattle.derivation.specs.Refusals.{refused, answer, NotRefused}
+use Rattle.derivation.specs.Step.{State, initial, rule_at, lowest, below_floor, step_call}
 use Rattle.derivation.specs.Play.{Entry, play, end_state, stepped, count_steps, sum_minutes, rounds}
 use Rattle.derivation.specs.Run.{step_bound, pass_bound, solve}
 
@@ -21,6 +22,18 @@ pub record Lowered (r : Rule) (before after : List ℤ) : Type 0 where
   pub lower : time_at after r.z <ℤ time_at before r.z
   pub no_other : (job : ℕ) → (job ≡ r.z → ⊥) → time_at after job ≡ time_at before job
   pub same_size : length after ≡ length before
+
+-- what a hand step tells: the rule's third job, and its times before and after
+pub record Told (r : Rule) (before after : List ℤ) (slip : Slip) : Type 0 where
+  pub job_is : slip.job ≡ r.z
+  pub before_is : slip.before ≡ time_at before r.z
+  pub after_is : slip.after ≡ time_at after r.z
+
+-- any hand step, on anything, that is answered
+abbrev pub StepTells : Type 0
+StepTells =
+    (b : Book) (state : State) (number : ℕ) (slip : Slip) → (step_call b state number).said ≡ answer slip →
+    Told (rule_at b.rules number) state.times (step_call b state number).after.times slip
 
 -- "the other calls changed nothing", and were refused with 24, 25 or 26
 pub record Unchanged (e : Entry) : Type 0 where
@@ -65,19 +78,40 @@ Demand3 = (b : Book) → NotRefused b → (calls : List ℕ) → AnyOrder b call
 pub record Exact (b : Book) : Type 0 where
   pub plan_iff : ((solve b).end ≡ planned) ↔ Satisfiable b
   pub plan_is : (solve b).end ≡ planned → Plan b (solve b).times
-  pub none_iff : ((job : ℕ) × ((solve b).end ≡ fell job)) ↔ (Satisfiable b → ⊥)
+  pub none_iff : ((slip : Slip) × ((solve b).end ≡ fell slip)) ↔ (Satisfiable b → ⊥)
 
 abbrev pub Demand2 : Type 0
 Demand2 = (b : Book) → NotRefused b → Exact b
+
+-- the bench run as a list of hand steps: the passes that it can make
+abbrev pub run_list : Book → List ℕ
+run_list b = rounds (pass_bound b) (length b.rules)
+
+-- the bench run's last step, and the board of one step earlier: that of the end, with the slip's job put back at its time before
+pub record LastStep (b : Book) (slip : Slip) : Type 0 where
+  pub calls : List ℕ
+  pub number : ℕ
+  pub rest : List ℕ
+  pub of_run : run_list b ≡ calls ++ number ∷ rest
+  pub one_less : (finally b calls).tally.steps + 1 ≡ (solve b).steps
+  pub put_back : (finally b calls).times ≡ set (solve b).times slip.job slip.before
+
+-- what the slip of a run for none says: the job stands at its time after, which is the first to be below the floor
+pub record Fallen (b : Book) (slip : Slip) : Type 0 where
+  pub of_book : slip.job < b.jobs
+  pub stands : time_at (solve b).times slip.job ≡ slip.after
+  pub below : slip.after <ℤ floor b
+  pub above : floor b ≤ℤ slip.before
+  pub last : LastStep b slip
 
 -- how the bench run goes: it ends, within the bounds, as its round-robin list of hand steps does
 pub record RunFacts (b : Book) : Type 0 where
   pub ends : (solve b).end ≡ unfinished → ⊥
   pub plan_steps : (solve b).end ≡ planned → (solve b).steps ≤ step_bound b
-  pub none_steps : (job : ℕ) → (solve b).end ≡ fell job → (solve b).steps ≤ step_bound b + 1
-  pub fallen : (job : ℕ) → (solve b).end ≡ fell job → (job < b.jobs) × (time_at (solve b).times job <ℤ floor b)
-  pub times_are : (finally b (rounds (pass_bound b) (length b.rules))).times ≡ (solve b).times
-  pub same_steps : (finally b (rounds (pass_bound b) (length b.rules))).tally.steps ≡ (solve b).steps
+  pub none_steps : (slip : Slip) → (solve b).end ≡ fell slip → (solve b).steps ≤ step_bound b + 1
+  pub fallen : (slip : Slip) → (solve b).end ≡ fell slip → Fallen b slip
+  pub times_are : (finally b (run_list b)).times ≡ (solve b).times
+  pub same_steps : (finally b (run_list b)).tally.steps ≡ (solve b).steps
 
 -- what the documents say of plans
 pub record PlanFacts (b : Book) : Type 0 where

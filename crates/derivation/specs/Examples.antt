@@ -6,9 +6,10 @@ use Rattle.maxatom.specs.Class.{class_of}
 use Rattle.maxatom.specs.Book.{Book, book, zeros, total, minus}
 use Rattle.maxatom.specs.Runs.{End, planned, fell, unfinished}
 use Rattle.maxatom.specs.declared.Rule.{Rule}
+use Rattle.maxatom.specs.declared.Slip.{Slip}
 use Rattle.maxatom.specs.declared.Class.{Class}
 use Rattle.maxatom.specs.declared.Class.TheVariants.{Tautology, Contradiction, Difference, Disjunctive}
-use Rattle.derivation.specs.Refusals.{accepts}
+use Rattle.derivation.specs.Refusals.{Reply, refused, answer}
 use Rattle.derivation.specs.Step.{State, rule_at, step_call}
 use Rattle.derivation.specs.Run.{solve}
 
@@ -16,12 +17,12 @@ use Rattle.derivation.specs.Run.{solve}
 pub data Claim : Type 0 where
   plan_said : List ℤ → Claim
   none_said : Claim
-  none_at : ℕ → Claim
+  none_at : Slip → Claim
   steps_are : ℕ → Claim
   total_is : ℕ → Claim
   class_is : ℕ → Class → Claim
   tight_is : ℕ → List ℤ → Bool → Claim
-  step_leaves : State → ℕ → State → Claim
+  step_leaves : State → ℕ → Slip → State → Claim
   satisfied_is : ℕ → List ℤ → Bool → Claim
 
 pub record Example : Type 0 where
@@ -31,6 +32,9 @@ pub record Example : Type 0 where
 -- (x, y, k → z)
 abbrev pub rule : ℕ → ℕ → ℤ → ℕ → Rule
 rule x y k z = record { x = x; y = y; z = z; k = k }
+
+abbrev pub slip : ℕ → ℤ → ℤ → Slip
+slip job before after = record { job = job; before = before; after = after }
 
 abbrev pub state : List ℤ → ℕ → ℕ → State
 state times steps minutes = record { times = times; tally = record { steps = steps; minutes = minutes } }
@@ -46,16 +50,16 @@ stars =
     record { book = zeros 1 []; claims = plan_said (pos 0 ∷ []) ∷ steps_are 0 ∷ [] }
     ∷ record { book = zeros 4 example_b; claims = plan_said plan_b ∷ steps_are 23 ∷ total_is 36 ∷ tight_is 0 plan_b true ∷ tight_is 1 plan_b true ∷ tight_is 2 plan_b true ∷ tight_is 3 plan_b false ∷ [] }
     ∷ record { book = zeros 4 (rule 0 0 (minus 10) 1 ∷ rule 3 3 (pos 0) 2 ∷ rule 1 2 (minus 1) 3 ∷ rule 1 0 (pos 25) 3 ∷ rule 1 2 (pos 9) 0 ∷ []); claims = none_said ∷ [] }
-    ∷ record { book = zeros 1 (rule 0 0 (minus 1) 0 ∷ []); claims = none_at 0 ∷ steps_are 2 ∷ total_is 1 ∷ [] }
+    ∷ record { book = zeros 1 (rule 0 0 (minus 1) 0 ∷ []); claims = none_at (slip 0 (minus 1) (minus 2)) ∷ steps_are 2 ∷ total_is 1 ∷ [] }
     ∷ record { book = zeros 1 (rule 0 0 (pos 0) 0 ∷ []); claims = class_is 0 Tautology ∷ plan_said (pos 0 ∷ []) ∷ steps_are 0 ∷ [] }
     ∷ record { book = zeros 2 (rule 0 1 (minus 1) 0 ∷ []); claims = class_is 0 Difference ∷ plan_said (minus 1 ∷ pos 0 ∷ []) ∷ steps_are 1 ∷ [] }
     ∷ record { book = zeros 2 (rule 0 0 (minus 5) 1 ∷ []); claims = plan_said (pos 0 ∷ minus 5 ∷ []) ∷ steps_are 1 ∷ [] }
     ∷ record { book = zeros 2 (rule 0 0 (pos 5) 1 ∷ []); claims = plan_said (pos 0 ∷ pos 0 ∷ []) ∷ tight_is 0 (pos 0 ∷ pos 0 ∷ []) false ∷ [] }
-    ∷ record { book = zeros 2 (rule 0 0 (minus 1) 1 ∷ rule 1 1 (pos 0) 0 ∷ []); claims = none_at 1 ∷ steps_are 3 ∷ [] }
+    ∷ record { book = zeros 2 (rule 0 0 (minus 1) 1 ∷ rule 1 1 (pos 0) 0 ∷ []); claims = none_at (slip 1 (minus 1) (minus 2)) ∷ steps_are 3 ∷ [] }
     ∷ record { book = zeros 2 (rule 0 0 (minus 1) 1 ∷ rule 1 1 (pos 1) 0 ∷ []); claims = plan_said (pos 0 ∷ minus 1 ∷ []) ∷ steps_are 1 ∷ [] }
     ∷ record {
       book = zeros 2 (rule 0 1 (minus 1) 0 ∷ rule 0 0 (minus 3) 1 ∷ []);
-      claims = step_leaves (state (pos 0 ∷ minus 3 ∷ []) 1 3) 0 (state (minus 1 ∷ minus 3 ∷ []) 2 4) ∷ satisfied_is 0 (minus 1 ∷ minus 3 ∷ []) false ∷ [];
+      claims = step_leaves (state (pos 0 ∷ minus 3 ∷ []) 1 3) 0 (slip 0 (pos 0) (minus 1)) (state (minus 1 ∷ minus 3 ∷ []) 2 4) ∷ satisfied_is 0 (minus 1 ∷ minus 3 ∷ []) false ∷ [];
     }
     ∷ record {
       book = book 2 (minus 3 ∷ minus 5 ∷ []) (rule 0 0 (minus 4) 1 ∷ []);
@@ -63,7 +67,7 @@ stars =
     }
     ∷ record {
       book = book 2 (minus 2 ∷ pos 0 ∷ []) (rule 0 0 (minus 1) 1 ∷ rule 1 1 (pos 0) 0 ∷ []);
-      claims = none_at 1 ∷ steps_are 3 ∷ [];
+      claims = none_at (slip 1 (minus 3) (minus 4)) ∷ steps_are 3 ∷ [];
     }
     ∷ record { book = book 2 (pos 0 ∷ minus 60 ∷ []) []; claims = plan_said (pos 0 ∷ minus 60 ∷ []) ∷ steps_are 0 ∷ [] }
     ∷ []
@@ -75,12 +79,19 @@ same_times [] (b ∷ bs) = false
 same_times (a ∷ s) [] = false
 same_times (a ∷ s) (b ∷ t) = eq_z a b && same_times s t
 
+unfoldable pub same_slip : Slip → Slip → Bool
+same_slip s t = eqb s.job t.job && eq_z s.before t.before && eq_z s.after t.after
+
+unfoldable pub says_slip : Reply Slip → Slip → Bool
+says_slip (refused number place) s = false
+says_slip (answer t) s = same_slip t s
+
 unfoldable pub same_end : End → End → Bool
 same_end planned planned = true
 same_end planned (fell j) = false
 same_end planned unfinished = false
 same_end (fell i) planned = false
-same_end (fell i) (fell j) = eqb i j
+same_end (fell i) (fell j) = same_slip i j
 same_end (fell i) unfinished = false
 same_end unfinished planned = false
 same_end unfinished (fell j) = false
@@ -100,14 +111,14 @@ class_number Disjunctive = 3
 unfoldable pub holds : Book → Claim → Bool
 holds b (plan_said times) = let run = solve b in same_end run.end planned && same_times run.times times
 holds b none_said = is_fall (solve b).end
-holds b (none_at job) = same_end (solve b).end (fell job)
+holds b (none_at last) = same_end (solve b).end (fell last)
 holds b (steps_are n) = eqb (solve b).steps n
 holds b (total_is n) = eqb (total b.rules) n
 holds b (class_is number c) = eqb (class_number (class_of (rule_at b.rules number))) (class_number c)
 holds b (tight_is number times said) = beq (tight (rule_at b.rules number) times) said
-holds b (step_leaves before number after) =
+holds b (step_leaves before number took after) =
     let called = step_call b before number in
-    accepts called.said && same_times called.after.times after.times
+    says_slip called.said took && same_times called.after.times after.times
     && eqb called.after.tally.steps after.tally.steps && eqb called.after.tally.minutes after.tally.minutes
 holds b (satisfied_is number times said) = beq (satisfied (rule_at b.rules number) times) said
 

@@ -3,13 +3,14 @@ use Rattle.std.specs.Prelude.{Bool, cond, List, [], ◌∷◌, ◌++◌, ℕ, ze
 use Rattle.maxatom.specs.Rule.{time_at, minutes_off}
 use Rattle.maxatom.specs.Book.{Book}
 use Rattle.maxatom.specs.declared.Rule.{Rule}
+use Rattle.maxatom.specs.declared.Slip.{Slip}
 use Rattle.derivation.specs.Refusals.{Reply, accepts}
 use Rattle.derivation.specs.Step.{State, rule_at, step_call}
 
 -- a call of the list: the rule number asked for, the reply, and the states around it
 pub record Entry : Type 0 where
   pub asked : ℕ
-  pub said : Reply (Unit {0})
+  pub said : Reply Slip
   pub before : State
   pub after : State
 

@@ -2,6 +2,7 @@
 use Rattle.std.specs.Prelude.{◌≡◌, Bool, List, ℕ, ◌+◌, ◌≤◌, ℤ, Option, Some, None, Result, Ok, Err, ⊤}
 use Rattle.maxatom.specs.Book.{Book, Satisfiable, Plan}
 use Rattle.maxatom.specs.Runs.{planned, fell}
+use Rattle.maxatom.specs.declared.Slip.{Slip}
 use Rattle.derivation.specs.Refusals.{Reply, refused, answer}
 use Rattle.derivation.specs.Faults.{number_of}
 use Rattle.derivation.specs.Step.{State}
@@ -18,7 +19,11 @@ abbrev pub reply_of : {A B : Type 0} → (A → B) → Result A Refusal → Repl
 reply_of value (Ok a) = answer (value a)
 reply_of value (Err r) = refused (number_of r.fault) r.place
 
--- it was done: fresh board, hand step, plan writer
+-- hand step: what it took off
+abbrev pub slip_reply : Result Slip Refusal → Reply Slip
+slip_reply r = reply_of (λ slip. slip) r
+
+-- it was done: fresh board, plan writer
 abbrev pub outcome_reply : Result ⊤ Refusal → Reply (Unit {0})
 outcome_reply r = reply_of (λ a. tt) r
 
@@ -41,7 +46,7 @@ tight_reply r = reply_of (λ tight. tight) r
 -- bench run
 abbrev pub solved_answer : Solved → Answer
 solved_answer (Solve.Plan steps) = record { steps = steps; end = planned }
-solved_answer (Solve.None steps job) = record { steps = steps; end = fell job }
+solved_answer (Solve.None steps slip) = record { steps = steps; end = fell slip }
 
 abbrev pub solved_reply : Result Solved Refusal → Reply Answer
 solved_reply r = reply_of solved_answer r
@@ -53,7 +58,7 @@ state_of times tally = record { times = times; tally = tally }
 -- what plan and none mean: the times are then the plan, and no choice of times keeps every rule
 pub record Meaning (b : Book) (r : Result Solved Refusal) (times : List ℤ) : Type 0 where
   pub plan : (steps : ℕ) → r ≡ Ok (Solve.Plan steps) → Plan b times × (steps ≤ step_bound b)
-  pub none : (steps job : ℕ) → r ≡ Ok (Solve.None steps job) → (Satisfiable b → ⊥) × (steps ≤ step_bound b + 1)
+  pub none : (steps : ℕ) (slip : Slip) → r ≡ Ok (Solve.None steps slip) → (Satisfiable b → ⊥) × (steps ≤ step_bound b + 1)
 
 -- a bench run's reply and the times it left: the equations, and beside them what they mean
 pub record SolvedCall (b : Book) (buffer : List ℤ) (r : Result Solved Refusal) (times : List ℤ) : Type 0 where

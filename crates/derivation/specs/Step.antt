@@ -4,7 +4,8 @@ use Rattle.std.specs.Int.Signed.{le_z, lt_z}
 use Rattle.maxatom.specs.Rule.{time_at, left_side, satisfied, eq_z, minutes_off}
 use Rattle.maxatom.specs.Book.{Book, total, smallest, floor}
 use Rattle.maxatom.specs.declared.Rule.{Rule}
-use Rattle.derivation.specs.Refusals.{Reply, Check, check, verdict, lent, times_checks, rule_check}
+use Rattle.maxatom.specs.declared.Slip.{Slip}
+use Rattle.derivation.specs.Refusals.{Reply, Check, check, reply, lent, times_checks, rule_check}
 use Rattle.derivation.specs.declared.Tally.{Tally}
 
 -- a board and the tally lent with it
@@ -65,6 +66,10 @@ held_checks b state number =
 unfoldable pub step_checks : Book → State → ℕ → List Check
 step_checks b state number = times_checks b state.times ++ held_checks b state number
 
+-- what a step on a rule takes off: the third job, its time before, and the left side, which is its time after
+abbrev pub slip_of : Rule → List ℤ → Slip
+slip_of r times = record { job = r.z; before = time_at times r.z; after = left_side r times }
+
 -- sets z's time to the left side, and brings the tally up to date
 unfoldable pub step_on : Rule → State → State
 step_on r state =
@@ -75,14 +80,16 @@ step_on r state =
     }
 
 -- a call's reply, and the state that it leaves
-pub record Called : Type 0 where
-  pub said : Reply (Unit {0})
+pub record Called (A : Type 0) : Type 0 where
+  pub said : Reply A
   pub after : State
 
--- a call under checks that would take one state to another
-unfoldable pub called_by : List Check → State → State → Called
-called_by checks before after = let said = verdict checks in record { said = said; after = lent said before after }
+-- a call under checks that would answer a, and take one state to another
+unfoldable pub called_by : {A : Type 0} → List Check → A → State → State → Called A
+called_by checks a before after = let said = reply checks a in record { said = said; after = lent said before after }
 
--- hand step
-unfoldable pub step_call : Book → State → ℕ → Called
-step_call b state number = called_by (step_checks b state number) state (step_on (rule_at b.rules number) state)
+-- hand step, which tells what it took off
+unfoldable pub step_call : Book → State → ℕ → Called Slip
+step_call b state number =
+    let r = rule_at b.rules number in
+    called_by (step_checks b state number) (slip_of r state.times) state (step_on r state)

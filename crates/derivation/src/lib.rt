@@ -5,6 +5,8 @@
 ghost use Rattle.std.specs.Prelude.{◌≡◌};
 ghost use Rattle.derivation.specs.Faults.{number_of, refusal_for};
 
+use maxatom::Slip;
+
 // The tally: steps taken, and minutes lowered in all.
 #[repr(C)]
 #[derive(Clone, Copy, PartialEq, Eq)]
@@ -93,10 +95,10 @@ pub struct Counts {
     pub rules: usize,
 }
 
-// The bench run of a book that is not refused: a plan with the steps of the run, or none with the steps and the job that fell. It is no
+// The bench run of a book that is not refused: a plan with the steps of the run, or none with the steps and the slip of the last. It is no
 // `Result`, since none is an answer as a plan is, and no failure.
 #[derive(Clone, Copy, PartialEq, Eq)]
 pub enum Solved {
     Plan(u64),
-    None(u64, u16),
+    None(u64, Slip),
 }

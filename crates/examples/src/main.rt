@@ -2,7 +2,7 @@
 
 #![tactic(auto)]
 
-use planner::{Refusal, Rule, Tally, first_violated, record, step};
+use planner::{Refusal, Rule, Slip, Tally, first_violated, record, step};
 use report::report;
 use std::io;
 use std::io::Write;
@@ -26,7 +26,7 @@ fn show_record(rt: &impl Print, file: &[u8], number: usize) -> io::Result<()> {
     println!(rt)
 }
 
-// A hand step, with the board and the tally after it.
+// A hand step: its slip, with the board and the tally after it.
 fn hand_step(
     rt: &impl Print,
     rules: &[Rule],
@@ -35,8 +35,9 @@ fn hand_step(
     tally: &mut Tally,
     number: usize,
 ) -> io::Result<()> {
-    if step(times.len(), rules, latest, times, tally, number).is_err() {
-        println!(rt; "REFUSED")?;
+    match step(times.len(), rules, latest, times, tally, number) {
+        Ok(Slip { job, before, after }) => println!(rt; "SLIP {job} {before} {after}")?,
+        Err(_) => println!(rt; "REFUSED")?,
     }
     print!(rt; "BOARD")?;
     for time in &*times {

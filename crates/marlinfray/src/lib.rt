@@ -1,5 +1,5 @@
 // The public calls for C and Rust: `rt lib` here writes out/libmarlinfray.a, and embed/marlinfray.h says how C calls it. In C a
-// slice is a pointer and a length, and the reply is three words that the caller lends.
+// slice is a pointer and a length, and the reply is five numbers that the caller lends.
 
 #![tactic(auto)]
 
@@ -15,32 +15,52 @@ ghost use Rattle.derivation.specs.Examples.{class_number};
 ghost use Rattle.bookfile.specs.Reading.{place_of};
 ghost use Rattle.bookfile.specs.Replies.{read_reply, read_rules, read_latest};
 ghost use Rattle.bookfile.specs.Writing.{plan_checks, plan_out};
-ghost use Rattle.marlinfray.specs.Exported.{reply_words, refusal_words, done_words, count_words, check_words, tight_words, run_words, place_words};
+ghost use Rattle.marlinfray.specs.Exported.{words, timed, reply_words, refusal_words, done_words, slip_words, run_words};
+ghost use Rattle.marlinfray.specs.Exported.{count_words, check_words, tight_words, place_words};
 
-use planner::{Class, Counts, Refusal, Rule, Solved, Tally};
+use planner::{Class, Counts, Refusal, Rule, Slip, Solved, Tally};
 
-// A reply: what kind it is (0 an answer, 1 an answer against, 2 a refusal), and two numbers. The kind is a number because C reads it.
+// A reply: what kind it is (0 an answer, 1 an answer against, 2 a refusal), two numbers, and a slip's times before and after, which are 0
+// where the reply has no slip. The kind is a number because C reads it.
 #[repr(C)]
 #[derive(Drop)]
 pub struct Words {
     pub kind: u64,
     pub first: u64,
     pub second: u64,
+    pub before: i32,
+    pub after: i32,
 }
 
 impl Words {
+    // A reply with no slip.
     fn new(kind: u64, first: u64, second: u64) -> Words
-        ensures { result ≡ record { kind = kind; first = first; second = second } }
+        ensures { result ≡ words kind first second }
     {
         Words {
             kind,
             first,
             second,
+            before: 0,
+            after: 0,
+        }
+    }
+
+    // A reply with the times of a slip.
+    fn timed(kind: u64, first: u64, second: u64, slip: Slip) -> Words
+        ensures { result ≡ timed kind first second slip }
+    {
+        Words {
+            kind,
+            first,
+            second,
+            before: slip.before,
+            after: slip.after,
         }
     }
 }
 
-// Fresh board, hand step, plan writer: it was done.
+// Fresh board, plan writer: it was done.
 impl From<()> for Words {
     ghost from_gives = { λ done w. w ≡ done_words tt };
 
@@ -79,14 +99,23 @@ impl From<bool> for Words {
     }
 }
 
-// Bench run: the steps for a plan; the steps and the job that fell for none.
+// Hand step: the slip, which is the job and its times before and after.
+impl From<Slip> for Words {
+    ghost from_gives = { λ slip w. w ≡ slip_words slip };
+
+    fn from(slip: Slip) -> Words {
+        Words::timed(0, u64::from(slip.job), 0, slip)
+    }
+}
+
+// Bench run: the steps for a plan; the steps and the slip of the last for none.
 impl From<Solved> for Words {
     ghost from_gives = { λ solved w. w ≡ run_words (solved_answer solved) };
 
     fn from(solved: Solved) -> Words {
         match solved {
             Solved::Plan(steps) => Words::new(0, steps, 0),
-            Solved::None(steps, job) => Words::new(1, steps, u64::from(job)),
+            Solved::None(steps, slip) => Words::timed(1, steps, u64::from(slip.job), slip),
         }
     }
 }
@@ -204,7 +233,7 @@ pub extern "C" fn marlinfray_step(
     number: usize,
     reply: &mut Words,
 )
-    ensures { (reply.new ≡ reply_words done_words (step_call (book n latest.now rules.now) (state_of times.old tally.old) number).said)
+    ensures { (reply.new ≡ reply_words slip_words (step_call (book n latest.now rules.now) (state_of times.old tally.old) number).said)
         × (times.new ≡ (step_call (book n latest.now rules.now) (state_of times.old tally.old) number).after.times)
         × (tally.new ≡ (step_call (book n latest.now rules.now) (state_of times.old tally.old) number).after.tally) }
 {

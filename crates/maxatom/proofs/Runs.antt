@@ -11,6 +11,7 @@ use borrow.Author.Tests.{eq-eqb, ne_eqb}
 use Rattle.std.specs.Prelude.{Some, None}
 use Rattle.maxatom.specs.Book.{Each}
 use Rattle.maxatom.specs.Clauses.{Clause}
+use Rattle.maxatom.specs.declared.Slip.{Slip}
 use Rattle.maxatom.specs.Passes.{Walk, Passing, start, round}
 use Rattle.maxatom.specs.Runs.{Pass, pass, End, planned, fell, Run, passes, room}
 use Rattle.maxatom.proofs.Choose.{cond_yes, cond_no}
@@ -43,7 +44,7 @@ module _ (floor : ℤ) (cs : List Clause) (n s : ℕ) where
   abbrev after : Pass → Run
   after p =
       let ended : End → Run = λ end. record { times = p.times; steps = p.steps; end = end } in
-      elim p.fallen [ Some job ↦ ended (fell job) | None ↦ cond (eqb p.steps s) (ended planned) (passes n floor cs p.times p.steps) ]
+      elim p.fallen [ Some slip ↦ ended (fell slip) | None ↦ cond (eqb p.steps s) (ended planned) (passes n floor cs p.times p.steps) ]
 
   first_pass : (b : List ℤ) {p : Pass} → pass floor cs b s ≡ p → passes (suc n) floor cs b s ≡ after p
   unfolding passes
@@ -54,8 +55,8 @@ module _ {floor : ℤ} {cs : List Clause} where
   more {b = b} {s = s} {w = w} f = record { at = λ n h. subst (λ (m : ℕ). w ≡ passes m floor cs b s) (omega arith) (f (n - 1)) }
 
   -- a fall ends the run
-  pub ends_fell : {b b' : List ℤ} {s s' job : ℕ} → pass floor cs b s ≡ record { times = b'; steps = s'; fallen = Some job } →
-      Ends floor cs b s (record { times = b'; steps = s'; end = fell job })
+  pub ends_fell : {b b' : List ℤ} {s s' : ℕ} {slip : Slip} → pass floor cs b s ≡ record { times = b'; steps = s'; fallen = Some slip } →
+      Ends floor cs b s (record { times = b'; steps = s'; end = fell slip })
   ends_fell {b = b} {s = s} said = more (λ n. sym (first_pass floor cs n s b said))
 
   -- and so does a pass without a step

@@ -13,7 +13,7 @@ use Rattle.maxatom.specs.Book.{Each}
 use Rattle.maxatom.specs.declared.Arm.{Arm}
 use Rattle.maxatom.specs.Clauses.{In, here, there, Clause, Assignment, greatest, left_of, arms_of, Keeps, kept, stepped}
 use Rattle.maxatom.specs.Passes.{Walk, done, keep, lower}
-use Rattle.maxatom.specs.Runs.{pass, room}
+use Rattle.maxatom.specs.Runs.{slip_at, pass, room}
 use Rattle.maxatom.proofs.Choose.{cond_yes, cond_no}
 use Rattle.maxatom.proofs.Integers.{up, dn, le_read, le_make, lt_read, eq_make, off_parts, true_le, false_le, true_lt, false_lt, ≤ℤ-trans}
 use Rattle.maxatom.proofs.Lists.{set_time, sum_set}
@@ -111,14 +111,14 @@ module _ {floor : ℤ} where
 
   -- a walk before a clause whose step falls is a pass with that fall
   pub walk_fell : {cs : List Clause} {b b' : List ℤ} {k : ℕ} (s : ℕ) → Walk floor cs b b' k → (c : Clause) (ds : List Clause) → left_of (time_at b') c <ℤ time_at b' c.target →
-      left_of (time_at b') c <ℤ floor → pass floor (cs ++ (c ∷ ds)) b s ≡ record { times = stepped b' c; steps = s + k + 1; fallen = Some c.target }
+      left_of (time_at b') c <ℤ floor → pass floor (cs ++ (c ∷ ds)) b s ≡ record { times = stepped b' c; steps = s + k + 1; fallen = Some (slip_at b' c) }
   unfolding pass kept
   walk_fell {b = b} s done c ds v low =
-      cond_no _ _ (false_le v) ∙ (cond_yes _ _ (true_lt low) ∙ ap (λ (n : ℕ). record { times = stepped b c; steps = n + 1; fallen = Some c.target }) (omega arith))
+      cond_no _ _ (false_le v) ∙ (cond_yes _ _ (true_lt low) ∙ ap (λ (n : ℕ). record { times = stepped b c; steps = n + 1; fallen = Some (slip_at b c) }) (omega arith))
   walk_fell s (keep h w) c ds v low = cond_yes _ _ (true_le h) ∙ walk_fell s w c ds v low
   walk_fell {b' = b'} s (lower {s = k} p h w) c ds v low =
       cond_no _ _ (false_le p)
-      ∙ (cond_no _ _ (false_lt h) ∙ (walk_fell (s + 1) w c ds v low ∙ ap (λ (n : ℕ). record { times = stepped b' c; steps = n + 1; fallen = Some c.target }) (omega arith)))
+      ∙ (cond_no _ _ (false_lt h) ∙ (walk_fell (s + 1) w c ds v low ∙ ap (λ (n : ℕ). record { times = stepped b' c; steps = n + 1; fallen = Some (slip_at b' c) }) (omega arith)))
 
 -- no arm's job has another time
 abbrev pub Still : List ℤ → List ℤ → Clause → Type 0

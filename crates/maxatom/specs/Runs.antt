@@ -3,12 +3,17 @@ use Rattle.std.specs.Prelude.{cond, Option, Some, None, List, [], ◌∷◌, ℕ
 use Rattle.std.specs.Int.Signed.{lt_z}
 use Rattle.maxatom.specs.Rule.{time_at, minutes_off}
 use Rattle.maxatom.specs.Clauses.{Clause, left_of, kept, stepped}
+use Rattle.maxatom.specs.declared.Slip.{Slip}
 
--- what a pass leaves: the times, the steps so far, and the job that fell, where one did
+-- what a step on a clause takes off
+abbrev pub slip_at : List ℤ → Clause → Slip
+slip_at times c = record { job = c.target; before = time_at times c.target; after = left_of (time_at times) c }
+
+-- what a pass leaves: the times, the steps so far, and the slip of the step that fell, where one did
 pub record Pass : Type 0 where
   pub times : List ℤ
   pub steps : ℕ
-  pub fallen : Option ℕ
+  pub fallen : Option Slip
 
 -- one pass: a step on each violated clause, and an end at once when a time falls below the floor
 unfoldable pub pass : ℤ → List Clause → List ℤ → ℕ → Pass
@@ -18,12 +23,12 @@ pass floor (c ∷ cs) times steps =
     let next = pass floor cs times steps in
     let down = pass floor cs lowered (steps + 1) in
     cond (kept c times) next
-    (cond (lt_z (left_of (time_at times) c) floor) (record { times = lowered; steps = steps + 1; fallen = Some c.target }) down)
+    (cond (lt_z (left_of (time_at times) c) floor) (record { times = lowered; steps = steps + 1; fallen = Some (slip_at times c) }) down)
 
--- how a run stands: a plan; none, with the job that fell; or not at its end
+-- how a run stands: a plan; none, with the slip of the step that fell; or not at its end
 pub data End : Type 0 where
   planned : End
-  fell : ℕ → End
+  fell : Slip → End
   unfinished : End
 
 pub record Run : Type 0 where
@@ -38,7 +43,7 @@ passes (suc n) floor cs times steps =
     let p = pass floor cs times steps in
     let ended : End → Run = λ end. record { times = p.times; steps = p.steps; end = end } in
     let more = passes n floor cs p.times p.steps in
-    elim p.fallen [ Some job ↦ ended (fell job) | None ↦ cond (eqb p.steps steps) (ended planned) more ]
+    elim p.fallen [ Some slip ↦ ended (fell slip) | None ↦ cond (eqb p.steps steps) (ended planned) more ]
 
 -- the sum of a measure over the times
 unfoldable pub sum_by : (ℤ → ℕ) → List ℤ → ℕ

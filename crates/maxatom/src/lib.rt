@@ -22,6 +22,15 @@ pub struct Arm {
     pub offset: i32,
 }
 
+// What a step takes off: a job, its time before the step and its time after it.
+#[repr(C)]
+#[derive(Clone, Copy, PartialEq, Eq)]
+pub struct Slip {
+    pub job: u16,
+    pub before: i32,
+    pub after: i32,
+}
+
 // In the words of the formats: idle, impossible, one-armed, two-armed.
 #[derive(Clone, Copy, PartialEq, Eq)]
 pub enum Class {

@@ -22,12 +22,13 @@ use Rattle.maxatom.specs.Book.{Book, book, total, smallest, floor}
 use Rattle.maxatom.specs.Accepted.{InTime}
 use Rattle.maxatom.specs.Clauses.{InJobs, clause_of}
 use Rattle.maxatom.specs.declared.Rule.{Rule}
+use Rattle.maxatom.specs.declared.Slip.{Slip}
 use Rattle.derivation.specs.Faults.{number_of}
 use Rattle.derivation.specs.Refusals.{Reply, refused, answer, Check, reply, check, rule_check, times_checks, lent}
 use Rattle.table.proofs.Latest.{floor_is}
 use Rattle.solver.proofs.Laws.{in_book, in_jobs}
-use Rattle.solver.proofs.Steps.{total_bound, smallest_in, Legal, legal, tally_room, lowerable, off_bound}
-use Rattle.derivation.specs.Step.{State, no_rule, rule_at, lowest, in_range, below_floor, fits, rule_step_checks, held_checks, step_checks, step_on, Called, called_by, step_call}
+use Rattle.solver.proofs.Steps.{total_bound, smallest_in, Legal, legal, tally_room, left_fits, off_bound}
+use Rattle.derivation.specs.Step.{State, no_rule, rule_at, lowest, in_range, below_floor, fits, rule_step_checks, held_checks, step_checks, slip_of, step_on, Called, called_by, step_call}
 use Rattle.derivation.specs.Calls.{violates, first_violated, model_check_call, tight_call}
 use Rattle.derivation.specs.Run.{solve}
 use Rattle.derivation.specs.Replies.{model_check, SolvedCall}
@@ -149,25 +150,28 @@ module _ (b : Book) (state : State) (number : ℕ) where
   abbrev next : State
   next = step_on (rule_at b.rules number) state
 
-  abbrev stays : ℕ → ℕ → Called
+  abbrev took : Slip
+  took = slip_of (rule_at b.rules number) state.times
+
+  abbrev stays : ℕ → ℕ → Called Slip
   stays fault place = record { said = refused fault place; after = state }
 
   pub step_call_lem : (r : Result ℕ Refusal) → sum_reply r ≡ checks_reply b state.times →
-      then_called r (held_checks b state number) state next ≡ step_call b state number
+      then_called r (held_checks b state number) took state next ≡ step_call b state number
   unfolding step_call step_checks called_by
-  step_call_lem r e = ap (λ (said : Reply (Unit {0})). record { said = said; after = lent said state next }) (same_checks b state.times tt (held_checks b state number) r e)
+  step_call_lem r e = ap (λ (said : Reply Slip). record { said = said; after = lent said state next }) (same_checks b state.times took (held_checks b state number) r e)
 
   pub step_refused : (q : Refusal) → sum_reply (Err q) ≡ checks_reply b state.times → step_call b state number ≡ stays (number_of q.fault) q.place
   unfolding lent
   step_refused q e = sym (step_call_lem (Err q) e)
 
   module _ {k : ℕ} (e : sum_reply (Ok k) ≡ checks_reply b state.times) where
-    step_held : step_call b state number ≡ called_by (held_checks b state number) state next
+    step_held : step_call b state number ≡ called_by (held_checks b state number) took state next
     unfolding called_by
     step_held = sym (step_call_lem (Ok k) e)
 
     pub step_range : in_range (lowest b) b.latest state.times ≡ false → step_call b state number ≡ stays 22 0
-    step_range h = step_held ∙ call_says _ _ _ _ (ap not h)
+    step_range h = step_held ∙ call_says _ _ _ _ _ (ap not h)
 
     module _ (range : in_range (lowest b) b.latest state.times ≡ true) where
       -- the board is legal, so that the tally can be tested
@@ -175,28 +179,28 @@ module _ (b : Book) (state : State) (number : ℕ) where
       held = legal (lowest b) b.latest state.times (same_size b state.times e) range
 
       pub step_tally : fits b.latest state.tally state.times ≡ false → step_call b state number ≡ stays 23 0
-      step_tally h = step_held ∙ (call_skips _ _ _ _ (ap not range) ∙ call_says _ _ _ _ (ap not h))
+      step_tally h = step_held ∙ (call_skips _ _ _ _ _ (ap not range) ∙ call_says _ _ _ _ _ (ap not h))
 
       module _ (tally : fits b.latest state.tally state.times ≡ true) where
-        step_rule : step_call b state number ≡ called_by (rule_step_checks b state number) state next
-        step_rule = step_held ∙ (call_skips _ _ _ _ (ap not range) ∙ call_skips _ _ _ _ (ap not tally))
+        step_rule : step_call b state number ≡ called_by (rule_step_checks b state number) took state next
+        step_rule = step_held ∙ (call_skips _ _ _ _ _ (ap not range) ∙ call_skips _ _ _ _ _ (ap not tally))
 
         pub step_no_rule : length b.rules ≤ number → step_call b state number ≡ stays 24 0
-        step_no_rule h = step_rule ∙ call_says _ _ _ _ (le-leb (length b.rules) number h)
+        step_no_rule h = step_rule ∙ call_says _ _ _ _ _ (le-leb (length b.rules) number h)
 
         module _ (of_book : number < length b.rules) where
           pub step_low : below_floor (floor b) state.times ≡ true → step_call b state number ≡ stays 25 0
-          step_low h = step_rule ∙ (call_skips _ _ _ _ (lt-leb (length b.rules) number of_book) ∙ call_says _ _ _ _ h)
+          step_low h = step_rule ∙ (call_skips _ _ _ _ _ (lt-leb (length b.rules) number of_book) ∙ call_says _ _ _ _ _ h)
 
           module _ (above : below_floor (floor b) state.times ≡ false) where
-            step_high : step_call b state number ≡ called_by (check (satisfied (rule_at b.rules number) state.times) 26 0 ∷ []) state next
-            step_high = step_rule ∙ (call_skips _ _ _ _ (lt-leb (length b.rules) number of_book) ∙ call_skips _ _ _ _ above)
+            step_high : step_call b state number ≡ called_by (check (satisfied (rule_at b.rules number) state.times) 26 0 ∷ []) took state next
+            step_high = step_rule ∙ (call_skips _ _ _ _ _ (lt-leb (length b.rules) number of_book) ∙ call_skips _ _ _ _ _ above)
 
             pub step_kept : satisfied (rule_at b.rules number) state.times ≡ true → step_call b state number ≡ stays 26 0
-            step_kept h = step_high ∙ call_says _ _ _ _ h
+            step_kept h = step_high ∙ call_says _ _ _ _ _ h
 
-            pub step_done : satisfied (rule_at b.rules number) state.times ≡ false → step_call b state number ≡ record { said = answer tt; after = next }
-            step_done h = step_high ∙ (call_skips _ _ _ _ h ∙ call_done _ _)
+            pub step_done : satisfied (rule_at b.rules number) state.times ≡ false → step_call b state number ≡ record { said = answer took; after = next }
+            step_done h = step_high ∙ (call_skips _ _ _ _ _ h ∙ call_done _ _ _)
 
             -- the step may be taken
             pub step_room : satisfied (rule_at b.rules number) state.times ≡ false → StepRoom (rule_at b.rules number) state.times state.tally
@@ -206,7 +210,7 @@ module _ (b : Book) (state : State) (number : ℕ) where
                 let r = in_book number a of_book in
                 record {
                   in_jobs = rule_in_jobs b state.times e number of_book;
-                  lowerable = lowerable a held above (rule_at b.rules number) r h;
+                  left_fits = left_fits a held above (rule_at b.rules number) r;
                   steps_fit = omega arith;
                   minutes_fit = omega (arith, off_bound a held above (rule_at b.rules number) r h);
                 }

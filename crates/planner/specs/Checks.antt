@@ -19,6 +19,6 @@ abbrev pub then_reply : {A : Type 0} → Result ℕ Refusal → List Check → A
 then_reply (Err q) more a = refused (number_of q.fault) q.place
 then_reply (Ok k) more a = reply more a
 
--- and what a call under them that would take one state to another leaves
-abbrev pub then_called : Result ℕ Refusal → List Check → State → State → Called
-then_called r more before after = let said = then_reply r more tt in record { said = said; after = lent said before after }
+-- and what a call under them that would answer a, and take one state to another, leaves
+abbrev pub then_called : {A : Type 0} → Result ℕ Refusal → List Check → A → State → State → Called A
+then_called r more a before after = let said = then_reply r more a in record { said = said; after = lent said before after }

@@ -1,27 +1,31 @@
 // The hand step.
 ghost use Rattle.std.specs.Prelude.{◌≡◌};
 ghost use Rattle.maxatom.specs.Book.{book};
-ghost use Rattle.derivation.specs.Step.{step_on, step_call};
-ghost use Rattle.derivation.specs.Replies.{outcome_reply, state_of};
+ghost use Rattle.derivation.specs.Step.{slip_of, step_on, step_call};
+ghost use Rattle.derivation.specs.Replies.{slip_reply, state_of};
 ghost use Rattle.planner.specs.Steps.{StepRoom};
 
 use crate::checks::check;
 use derivation::{Fault, Refusal, Tally};
-use maxatom::Rule;
+use maxatom::{Rule, Slip};
 use solver::{below_floor, in_range, is_satisfied, lower, tally_fits};
 use table::{floor, smallest};
 
-// Sets z's time to the rule's left side, and brings the tally up to date.
-#[tactic(auto, unfolding(derivation::specs::Step::step_on))]
-fn take_step(r: Rule, times: &mut [i32], tally: &mut Tally)
+// Sets z's time to the rule's left side, brings the tally up to date, and tells what was taken off.
+#[tactic(auto, unfolding(derivation::specs::Step::step_on, maxatom::specs::Rule::minutes_off))]
+fn take_step(r: Rule, times: &mut [i32], tally: &mut Tally) -> Slip
     requires { StepRoom r times.old tally.old }
-    ensures { state_of times.new tally.new ≡ step_on r (state_of times.old tally.old) }
+    ensures told { result ≡ slip_of r times.old }
+    ensures state_after { state_of times.new tally.new ≡ step_on r (state_of times.old tally.old) }
 {
-    tally.minutes += lower(r, times);
+    let slip = lower(r, times);
+    tally.minutes += u64::from(slip.before.abs_diff(slip.after));
     tally.steps += 1;
+    slip
 }
 
-// Hand step: takes a violated rule and sets its third job's time to the left side; the tally is brought up to date.
+// Hand step: takes a violated rule and sets its third job's time to the left side; the tally is brought up to date. Answers the slip, which
+// tells what was taken off: the job, its time before and its time after.
 pub fn step(
     n: usize,
     rules: &[Rule],
@@ -29,8 +33,8 @@ pub fn step(
     times: &mut [i32],
     tally: &mut Tally,
     number: usize,
-) -> Result<(), Refusal>
-    ensures said { outcome_reply result ≡ (step_call (book n latest.now rules.now) (state_of times.old tally.old) number).said }
+) -> Result<Slip, Refusal>
+    ensures said { slip_reply result ≡ (step_call (book n latest.now rules.now) (state_of times.old tally.old) number).said }
     ensures times_after { times.new ≡ (step_call (book n latest.now rules.now) (state_of times.old tally.old) number).after.times }
     ensures tally_after { tally.new ≡ (step_call (book n latest.now rules.now) (state_of times.old tally.old) number).after.tally }
 {
@@ -51,6 +55,5 @@ pub fn step(
     if is_satisfied(r, times) {
         return Err(Fault::Satisfied.into());
     }
-    take_step(r, times, tally);
-    Ok(())
+    Ok(take_step(r, times, tally))
 }

@@ -14,6 +14,6 @@ pub use bookfile::writing::write_plan;
 pub use derivation::{Counts, Fault, Refusal, Solved, Tally};
 pub use hand_step::step;
 pub use kept::first_violated;
-pub use maxatom::{Class, Rule};
+pub use maxatom::{Class, Rule, Slip};
 pub use solver::initial;
 pub use tight::is_tight;

@@ -11,6 +11,7 @@ use lib.Seq.{drop-cons, length-take-le, take-append_seam}
 use Rattle.maxatom.specs.Book.{Book, book, total}
 use Rattle.maxatom.specs.Accepted.{InBook, Accepted}
 use Rattle.maxatom.specs.declared.Rule.{Rule}
+use Rattle.maxatom.specs.declared.Slip.{Slip}
 use Rattle.derivation.specs.Refusals.{Reply, refused, answer, lent, times_checks}
 use Rattle.derivation.specs.Run.{solve}
 use Rattle.derivation.specs.Step.{no_rule, rule_at}
@@ -41,7 +42,7 @@ module _ (b : Book) (buffer : List ℤ) (a : Accepted b) (n : length buffer ≡ 
   unfolding run_text end_text
   table_plan e = rw e at table_same
 
-  pub table_none : {steps job : ℕ} → r ≡ Solve.None steps job → none_text b.jobs b.rules job steps ≡ table_text b buffer
+  pub table_none : {steps : ℕ} {slip : Slip} → r ≡ Solve.None steps slip → none_text b.jobs b.rules slip steps ≡ table_text b buffer
   unfolding run_text end_text
   table_none e = rw e at table_same
 

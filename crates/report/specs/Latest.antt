@@ -12,7 +12,7 @@ use Rattle.report.specs.Report.{refused_line, plan_text, none_text}
 -- a plan or none; the bench run never ends unfinished
 unfoldable pub end_text : Book → List ℤ → ℕ → End → List ℕ
 end_text b times steps planned = plan_text b.rules times steps
-end_text b times steps (fell job) = none_text b.jobs b.rules job steps
+end_text b times steps (fell slip) = none_text b.jobs b.rules slip steps
 end_text b times steps unfinished = []
 
 -- the reply of the bench run, and the times that it left

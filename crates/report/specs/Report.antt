@@ -3,6 +3,7 @@ use Rattle.std.specs.Prelude.{cond, List, [], ◌∷◌, ◌++◌, ℕ, ◌+◌,
 use Rattle.maxatom.specs.Rule.{tight}
 use Rattle.maxatom.specs.Book.{total}
 use Rattle.maxatom.specs.declared.Rule.{Rule}
+use Rattle.maxatom.specs.declared.Slip.{Slip}
 use Rattle.report.specs.Text.{field, signed_field}
 
 -- BOOK has jobs, rules, K
@@ -31,18 +32,18 @@ tight_line rules times = (84 ∷ 73 ∷ 71 ∷ 72 ∷ 84 ∷ []) ++ (tight_field
 unfoldable pub steps_line : ℕ → List ℕ
 steps_line steps = (83 ∷ 84 ∷ 69 ∷ 80 ∷ 83 ∷ []) ++ (field steps ++ (10 ∷ []))
 
--- for none, NONE and the job
-unfoldable pub none_line : ℕ → List ℕ
-none_line job = (78 ∷ 79 ∷ 78 ∷ 69 ∷ []) ++ (field job ++ (10 ∷ []))
+-- for none, NONE and the slip of the last step: the job, its time before and its time after
+unfoldable pub none_line : Slip → List ℕ
+none_line slip = (78 ∷ 79 ∷ 78 ∷ 69 ∷ []) ++ (field slip.job ++ (signed_field slip.before ++ (signed_field slip.after ++ (10 ∷ []))))
 
 -- a refused file: REFUSED, number and byte only
 unfoldable pub refused_line : ℕ → ℕ → List ℕ
 refused_line number place = (82 ∷ 69 ∷ 70 ∷ 85 ∷ 83 ∷ 69 ∷ 68 ∷ []) ++ (field number ++ (field place ++ (10 ∷ [])))
 
--- a plan; for none, NONE and the job replace the JOB and TIGHT lines
+-- a plan; for none, the NONE line replaces the JOB and TIGHT lines
 unfoldable pub plan_text : List Rule → List ℤ → ℕ → List ℕ
 plan_text rules times steps =
     book_line (length times) (length rules) (total rules) ++ (job_lines 0 times ++ (tight_line rules times ++ steps_line steps))
 
-unfoldable pub none_text : ℕ → List Rule → ℕ → ℕ → List ℕ
-none_text jobs rules job steps = book_line jobs (length rules) (total rules) ++ (none_line job ++ steps_line steps)
+unfoldable pub none_text : ℕ → List Rule → Slip → ℕ → List ℕ
+none_text jobs rules slip steps = book_line jobs (length rules) (total rules) ++ (none_line slip ++ steps_line steps)

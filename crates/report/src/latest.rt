@@ -26,7 +26,7 @@ impl Text<'_> {
         }
         match solve(rules, latest, k, times) {
             Solved::Plan(steps) => self.plan(rules, k, times, steps),
-            Solved::None(steps, job) => self.none(latest.len(), rules.len(), k, job, steps),
+            Solved::None(steps, slip) => self.none(latest.len(), rules.len(), k, slip, steps),
         }
     }
 

@@ -9,7 +9,7 @@ ghost use Rattle.report.specs.Report.{book_line, job_line, job_lines, tight_fiel
 
 use crate::text::Text;
 use derivation::Refusal;
-use maxatom::Rule;
+use maxatom::{Rule, Slip};
 use solver::is_equality;
 
 impl Text<'_> {
@@ -56,13 +56,15 @@ impl Text<'_> {
         self.word(b"\n");
     }
 
-    fn none_line(&mut self, job: u64)
+    fn none_line(&mut self, slip: Slip)
         requires { self.old.end < 2 ^ 37 }
-        ensures written { Writes self.old (none_line job) self.new }
+        ensures written { Writes self.old (none_line slip) self.new }
         ensures upper_bound { self.new.end ≤ self.old.end + 80 }
     {
         self.word(b"NONE");
-        self.field(job);
+        self.field(u64::from(slip.job));
+        self.signed(slip.before);
+        self.signed(slip.after);
         self.word(b"\n");
     }
 
@@ -118,14 +120,14 @@ impl Text<'_> {
         self.steps_line(steps);
     }
 
-    // The report of none, for a book of n jobs and `count` rules whose K is k.
-    pub fn none(&mut self, n: usize, count: usize, k: u32, job: u16, steps: u64)
+    // The report of none, for a book of n jobs and `count` rules whose K is k, with the slip of the last step.
+    pub fn none(&mut self, n: usize, count: usize, k: u32, slip: Slip, steps: u64)
         requires end_bound { self.old.end < 2 ^ 28 }
-        ensures written { Writes self.old (book_line n count k ++ (none_line job ++ steps_line steps)) self.new }
+        ensures written { Writes self.old (book_line n count k ++ (none_line slip ++ steps_line steps)) self.new }
         ensures upper_bound { self.new.end ≤ self.old.end + 65536 }
     {
         self.book_line(n as u64, count as u64, u64::from(k));
-        self.none_line(u64::from(job));
+        self.none_line(slip);
         self.steps_line(steps);
     }
 }

@@ -7,7 +7,7 @@ use Rattle.maxatom.specs.Book.{Each, minus}
 use Rattle.maxatom.specs.Clauses.{In, here, InJobs, Clause, arms_of, arm_time, left_of, stepped}
 use Rattle.maxatom.specs.declared.Arm.{Arm}
 use Rattle.maxatom.specs.Passes.{Walk, round}
-use Rattle.maxatom.specs.Runs.{pass, Run, run, room, sum_by}
+use Rattle.maxatom.specs.Runs.{slip_at, pass, Run, run, room, sum_by}
 use Rattle.maxatom.proofs.Integers.{le_read, le_make, up_zero, off_parts, minus_parts, abs_parts, add_bounds, ≤ℤ-trans}
 use Rattle.maxatom.proofs.Signed.{fits_make, fits_between}
 use Rattle.maxatom.proofs.Lists.{each_in}
@@ -111,8 +111,8 @@ fell_at {floor = floor} cs {b = b} {m = m} {s = s} i h w falls e last =
     let none : Clause = record { first = record { job = 0; offset = pos 0 }; others = []; target = 0 } in
     let c = get_or cs i none in
     let split : take i cs ++ (c ∷ drop (i + 1) cs) ≡ cs = ap (λ (l : List Clause). take i cs ++ l) (sym (drop_more cs i none h)) ∙ take-append-drop i cs in
-    rw ((last none).stored, (last none).counted, (last none).job_is, w.counted)
-    (subst (λ (l : List Clause). pass floor l b s ≡ record { times = stepped m c; steps = s + w.made + 1; fallen = Some c.target }) split
+    rw ((last none).stored, (last none).counted, (last none).told, w.counted)
+    (subst (λ (l : List Clause). pass floor l b s ≡ record { times = stepped m c; steps = s + w.made + 1; fallen = Some (slip_at m c) }) split
     (walk_fell s w.walk c (drop (i + 1) cs) (falls none).violated (falls none).low))
 
 pub ends_run : {floor : ℤ} {cs : List Clause} {b : List ℤ} {w : Run} → Ends floor cs b 0 w → w ≡ run floor cs b

@@ -3,7 +3,7 @@ use Rattle.std.specs.Prelude.{◌≡◌, Some, List, ℕ, ◌+◌, ◌≤◌, �
 use Rattle.maxatom.specs.Rule.{time_at}
 use Rattle.maxatom.specs.Book.{Each, minus}
 use Rattle.maxatom.specs.Clauses.{Clause, arms_of, stepped}
-use Rattle.maxatom.specs.Runs.{Run, planned, fell, pass}
+use Rattle.maxatom.specs.Runs.{slip_at, Run, planned, fell, pass}
 use Rattle.maxatom.specs.declared.Arm.{Arm}
 use Rattle.clauses.specs.Passes.{InTimes, Walked}
 use Rattle.clauses.specs.declared.passing.Pass.{Pass}
@@ -24,18 +24,18 @@ pub record Runnable (floor : ℤ) (cs : List Clause) (times : List ℤ) : Type 0
 -- a run's outcome, the steps of a plan or the fall, with the times that it left
 abbrev pub end_of : Result ℕ Fall → List ℤ → Run
 end_of (Ok steps) times = record { times = times; steps = steps; end = planned }
-end_of (Err e) times = record { times = times; steps = e.steps; end = fell e.job }
+end_of (Err e) times = record { times = times; steps = e.steps; end = fell e.slip }
 
 -- one pass of a run: it went over all clauses, or it ended the run by a fall
 abbrev pub PassMade : ℤ → List Clause → List ℤ → ℕ → List ℤ → Result Pass Fall → Type 0
 PassMade floor cs times steps times' (Ok p) = Walked floor cs times times' steps p.steps
-PassMade floor cs times steps times' (Err e) = pass floor cs times steps ≡ record { times = times'; steps = e.steps; fallen = Some e.job }
+PassMade floor cs times steps times' (Err e) = pass floor cs times steps ≡ record { times = times'; steps = e.steps; fallen = Some e.slip }
 
--- the step on the clause is the last one of a run: it is stored, counted, and the job is named
+-- the step on the clause is the last one of a run: it is stored, counted and told
 pub record LastStep (c : Clause) (times times' : List ℤ) (before : ℕ) (e : Fall) : Type 0 where
   pub stored : times' ≡ stepped times c
   pub counted : e.steps ≡ before + 1
-  pub job_is : e.job ≡ c.target
+  pub told : e.slip ≡ slip_at times c
 
 -- passes of a run, each with a step: their steps are added to those before them
 pub record Came (floor : ℤ) (cs : List Clause) (times times' : List ℤ) (before after : ℕ) : Type 0 where

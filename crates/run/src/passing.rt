@@ -8,12 +8,13 @@ ghost use Rattle.run.specs.Running.{Runnable, LastStep, PassMade};
 
 use crate::blocks::{cleaned, is_dirty};
 use clauses::{AsClause, Pass, Stop, new_pass, pass_over};
+use maxatom::Slip;
 
-// A job fell below the floor: the steps of the run with the last one, and the job.
+// A job fell below the floor: the steps of the run with the last one, and the slip of that one.
 #[derive(Clone, Copy)]
 pub struct Fall {
     pub steps: u64,
-    pub job: u16,
+    pub slip: Slip,
 }
 
 // A pass over the dirty blocks: the clauses of the others are satisfied. The pass that it begins with has the blocks that are dirty.
@@ -82,10 +83,16 @@ fn last_step<C: AsClause>(clauses: &[C], floor: i32, low: Stop, times: &mut [i32
     let c = clauses[low.at];
     let z = c.target();
     let left = c.left_side(times) as i32;
-    times[z as usize] = left;
+    let time = &mut times[z as usize];
+    let before = *time;
+    *time = left;
     Fall {
         steps: low.steps + 1,
-        job: z,
+        slip: Slip {
+            job: z,
+            before,
+            after: left,
+        },
     }
 }
 

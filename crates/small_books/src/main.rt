@@ -1,70 +1,19 @@
 // Every book of up to two rules over two jobs, and of two rules over three, with offsets from -1 to 1 and latest times from -2 to 0: the
-// bench run, hand steps in three orders, and a search over all times from -6 up to the latest times must agree.
+// bench run, hand steps in three orders, and a search over all times from -6 up to the latest times must agree. What the bench run and each
+// hand step answer and leave must be what the reference here says.
 
 #![tactic(auto)]
 
 ghost use Rattle.std.specs.Prelude.{◌<◌, ◌≤◌};
 
-use planner::{Fault, Refusal, Rule, Solved, Tally, first_violated, initial, solve, step};
+mod books;
+mod reference;
+
+use books::{are_ascending, latest_of, rules_of};
+use planner::{Fault, Refusal, Rule, Slip, Solved, Tally, first_violated, initial, solve, step};
+use reference::{State, all_satisfied, depth};
 use std::fmt::Display;
 use std::{fmt, io};
-
-// A job of n, and what is left of a number.
-fn job(n: usize, number: usize) -> u16
-    requires { 0 < n }
-{
-    match number % n {
-        0 => 0,
-        1 => 1,
-        _ => 2,
-    }
-}
-
-fn offset(number: usize) -> i32 {
-    match number % 3 {
-        0 => -1,
-        1 => 0,
-        _ => 1,
-    }
-}
-
-// A rule over n jobs is a number: its low three digits to base n are the rule's jobs, the next, to base 3, is its offset and 1.
-fn rule(n: usize, number: usize) -> Rule
-    requires { 0 < n }
-{
-    Rule {
-        x: job(n, number),
-        y: job(n, number / n),
-        z: job(n, number / n / n),
-        k: offset(number / n / n / n),
-    }
-}
-
-// Two rules are a number: the digits above those of the first are the second's. A book of fewer rules lends fewer of them.
-fn rules_of(n: usize, number: usize) -> [Rule; 2]
-    requires { 0 < n }
-{
-    [rule(n, number), rule(n, number / n / n / n / 3)]
-}
-
-fn minute(number: usize) -> i32 {
-    match number % 3 {
-        0 => 0,
-        1 => -1,
-        _ => -2,
-    }
-}
-
-// Latest times are a number: its digits to base 3 are the minutes before zero. A job that the book has not stands at 0, so that those of
-// two jobs are the numbers below 9.
-fn latest_of(number: usize) -> [i32; 3] {
-    [minute(number), minute(number / 3), minute(number / 9)]
-}
-
-// Whether no job has a later time than the next one. With its jobs renumbered each book is one whose latest times are so.
-fn are_ascending(times: [i32; 3]) -> bool {
-    times[0] <= times[1] && times[1] <= times[2]
-}
 
 // What was found: a plan, none, or what should not be. A job that the book has not stands at 0. It is no `Option`, since three things may
 // be found.
@@ -73,24 +22,6 @@ enum Answer {
     Plan([i32; 3]),
     None,
     Odd,
-}
-
-fn time_of(times: [i32; 3], job: u16) -> i64 {
-    match job {
-        0 => i64::from(times[0]),
-        1 => i64::from(times[1]),
-        _ => i64::from(times[2]),
-    }
-}
-
-// Whether the times keep the rule, written apart from the library's test of a rule, which this program is to check.
-fn is_satisfied(r: Rule, times: [i32; 3]) -> bool {
-    let left = time_of(times, r.x).max(time_of(times, r.y));
-    time_of(times, r.z) <= left.saturating_add(i64::from(r.k))
-}
-
-fn all_satisfied(rules: &[Rule], times: [i32; 3]) -> bool {
-    rules.iter().all(|r| is_satisfied(*r, times))
 }
 
 // The later of two assignments, job by job.
@@ -124,15 +55,25 @@ fn searched(rules: &[Rule], latest: [i32; 3]) -> Answer {
     }
 }
 
-// What the bench run finds.
-fn solved(n: usize, rules: &[Rule], latest: [i32; 3]) -> Answer
+// What the bench run finds, and its steps and minutes; `None` where the reference's answers or leaves anything else.
+fn by_run(n: usize, rules: &[Rule], latest: [i32; 3]) -> Option<(Answer, Tally)>
     requires { n ≤ 3 }
 {
     let mut times = [0; 3];
-    match solve(n, rules, &latest[..n], &mut times[..n]) {
-        Ok(Solved::Plan(_)) => Answer::Plan(times),
-        Ok(Solved::None(_, _)) => Answer::None,
-        Err(_) => Answer::Odd,
+    let said = solve(n, rules, &latest[..n], &mut times[..n]);
+    let (expected, left) = reference::run(rules, latest);
+    let (answer, steps) = match expected {
+        Solved::Plan(steps) => (Answer::Plan(left), steps),
+        Solved::None(steps, _) => (Answer::None, steps),
+    };
+    let tally = Tally {
+        steps,
+        minutes: depth(left).saturating_sub(depth(latest)),
+    };
+    if said == Ok(expected) && times == left {
+        Some((answer, tally))
+    } else {
+        None
     }
 }
 
@@ -142,16 +83,6 @@ enum Order {
     Down,
     Up,
     First,
-}
-
-impl Display for Order {
-    fn fmt<W: fmt::Write>(&self, f: &mut fmt::Formatter<W>) -> fmt::Result {
-        match self {
-            Order::Down => write!(f, "DOWN"),
-            Order::Up => write!(f, "UP"),
-            Order::First => write!(f, "FIRST"),
-        }
-    }
 }
 
 impl Order {
@@ -165,128 +96,131 @@ impl Order {
     }
 }
 
-// Hand steps until all rules are satisfied, or until all are refused since the board shows none. Of three jobs two may stand 4 minutes
-// above the floor and one 2, so that a book takes at most 11 steps, and any two turns name a violated rule. A rule that is satisfied or is
-// not there is refused, and nothing changes.
-fn all_steps(order: Order, n: usize, rules: &[Rule], latest: &[i32], times: &mut [i32]) -> Tally {
-    let mut tally = Tally {
-        steps: 0,
-        minutes: 0,
+// What a hand step says, and the state after it; `None` where the reference says or leaves anything else.
+fn stepped(
+    n: usize,
+    rules: &[Rule],
+    latest: [i32; 3],
+    state: State,
+    number: usize,
+) -> Option<(Result<Slip, Fault>, State)>
+    requires { n ≤ 3 }
+{
+    let mut after = state;
+    let said = step(
+        n,
+        rules,
+        &latest[..n],
+        &mut after.times[..n],
+        &mut after.tally,
+        number,
+    );
+    let expected = reference::step(rules, latest, state, number);
+    let place = match said {
+        Ok(_) => 0,
+        Err(refusal) => refusal.place,
     };
-    for turn in 0..22 {
-        let found = first_violated(n, rules, latest, times);
-        if let Ok(None) = found {
-            break;
-        }
-        let _ = step(
-            n,
-            rules,
-            latest,
-            times,
-            &mut tally,
-            order.named(turn, found),
-        );
+    let found = (said.map_err(|refusal| refusal.fault), after);
+    if found == expected && place == 0 {
+        Some(found)
+    } else {
+        None
     }
-    tally
 }
 
-// By how many minutes the times stand before zero, in all.
-fn depth(times: [i32; 3]) -> u64 {
-    times.iter().fold(
-        0u64,
-        |sum, t| sum.saturating_add(u64::from(t.unsigned_abs())),
-    )
-}
-
-// What hand steps from a fresh board find in an order, and their number. They end with all rules satisfied, or with a board that shows
-// none, so that one more step is refused for that. The minutes of a plan must be those by which it stands before the latest times.
-fn by_hand(order: Order, n: usize, rules: &[Rule], latest: [i32; 3]) -> (Answer, u64)
+// A fresh board, with a tally of zero; `None` where it is not at the latest times.
+fn fresh(n: usize, latest: [i32; 3]) -> Option<State>
     requires { n ≤ 3 }
 {
     let mut times = [0; 3];
-    if initial(n, &latest[..n], &mut times[..n]).is_err() {
-        return (Answer::Odd, 0);
+    if initial(n, &latest[..n], &mut times[..n]).is_err() || times != latest {
+        return None;
     }
-    let mut tally = all_steps(order, n, rules, &latest[..n], &mut times[..n]);
-    let Tally { steps, minutes } = tally;
-    let more = step(n, rules, &latest[..n], &mut times[..n], &mut tally, 0);
-    let lowered = depth(times).saturating_sub(depth(latest));
-    let answer = match (first_violated(n, rules, &latest[..n], &times[..n]), more) {
-        (Ok(None), _) if minutes == lowered => Answer::Plan(times),
-        (Ok(Some(_)), Err(refusal)) if refusal.fault == Fault::ShowsNone => Answer::None,
-        _ => Answer::Odd,
-    };
-    (answer, steps)
+    Some(State {
+        times,
+        tally: Tally {
+            steps: 0,
+            minutes: 0,
+        },
+    })
 }
 
-// What hand steps in an order found of some books.
+// What hand steps from a fresh board find in an order, and the tally they leave; `None` where one differs from the reference's. They end
+// with all rules satisfied, or with a step that is refused since the board shows none. A book takes at most 11 steps, and any two turns
+// name a violated rule. A rule that is satisfied or is not there is refused, and nothing changes.
+fn by_hand(order: Order, n: usize, rules: &[Rule], latest: [i32; 3]) -> Option<(Answer, Tally)>
+    requires { n ≤ 3 }
+{
+    let mut state = fresh(n, latest)?;
+    for turn in 0..24 {
+        let found = first_violated(n, rules, &latest[..n], &state.times[..n]);
+        if let Ok(None) = found {
+            return Some((Answer::Plan(state.times), state.tally));
+        }
+        let (said, after) = stepped(n, rules, latest, state, order.named(turn, found))?;
+        if let Err(Fault::ShowsNone) = said {
+            return Some((Answer::None, state.tally));
+        }
+        state = after;
+    }
+    None
+}
+
+// What one way of calls found of some books.
 #[derive(Clone, Copy)]
 struct Sums {
-    order: Order,
     books: u64,
     plans: u64,
     nones: u64,
     steps: u64,
+    minutes: u64,
     differing: u64,
 }
 
 impl Display for Sums {
     fn fmt<W: fmt::Write>(&self, f: &mut fmt::Formatter<W>) -> fmt::Result {
         let Sums {
-            order,
             books,
             plans,
             nones,
             steps,
+            minutes,
             differing,
         } = self;
         write!(
             f,
-            "{order} BOOKS {books} PLANS {plans} NONES {nones} STEPS {steps} DIFFERING {differing}"
+            "BOOKS {books} PLANS {plans} NONES {nones} STEPS {steps} MINUTES {minutes} DIFFERING {differing}"
         )
     }
 }
 
 impl Sums {
-    fn new(order: Order) -> Sums {
+    fn new() -> Sums {
         Sums {
-            order,
             books: 0,
             plans: 0,
             nones: 0,
             steps: 0,
+            minutes: 0,
             differing: 0,
         }
     }
 
-    // Sums one more book: what hand steps find, where it is what was found of the book.
-    fn count(&mut self, found: Answer, n: usize, rules: &[Rule], latest: [i32; 3])
-        requires { n ≤ 3 }
-    {
-        let (answer, steps) = by_hand(self.order, n, rules, latest);
+    // Sums one more book: what was found of it, which must be what the search found, and the tally.
+    fn count(&mut self, searched: Answer, found: Option<(Answer, Tally)>) {
         self.books = self.books.saturating_add(1);
-        if answer != found {
-            self.differing = self.differing.saturating_add(1);
-            return;
+        match found {
+            Some((answer, tally)) if answer == searched => {
+                self.steps = self.steps.saturating_add(tally.steps);
+                self.minutes = self.minutes.saturating_add(tally.minutes);
+                match answer {
+                    Answer::Plan(_) => self.plans = self.plans.saturating_add(1),
+                    Answer::None => self.nones = self.nones.saturating_add(1),
+                    Answer::Odd => self.differing = self.differing.saturating_add(1),
+                }
+            }
+            _ => self.differing = self.differing.saturating_add(1),
         }
-        self.steps = self.steps.saturating_add(steps);
-        match answer {
-            Answer::Plan(_) => self.plans = self.plans.saturating_add(1),
-            Answer::None => self.nones = self.nones.saturating_add(1),
-            Answer::Odd => self.differing = self.differing.saturating_add(1),
-        }
-    }
-}
-
-// What the search finds of a book, where the run finds the same.
-fn found(n: usize, rules: &[Rule], latest: [i32; 3]) -> Answer
-    requires { n ≤ 3 }
-{
-    let answer = searched(rules, latest);
-    if answer == solved(n, rules, latest) {
-        answer
-    } else {
-        Answer::Odd
     }
 }
 
@@ -294,24 +228,26 @@ fn found(n: usize, rules: &[Rule], latest: [i32; 3]) -> Answer
 fn show(rt: &impl Print, n: usize, count: usize, many: usize, choices: usize) -> io::Result<()>
     requires { (0 < n) × (n ≤ 3) × (count ≤ 2) }
 {
-    let mut down = Sums::new(Order::Down);
-    let mut up = Sums::new(Order::Up);
-    let mut first = Sums::new(Order::First);
+    let mut run = Sums::new();
+    let mut down = Sums::new();
+    let mut up = Sums::new();
+    let mut first = Sums::new();
     for number in 0..many {
         let both = rules_of(n, number);
         let rules = &both[..count];
         for choice in 0..choices {
             let latest = latest_of(choice);
             if are_ascending(latest) {
-                let answer = found(n, rules, latest);
-                down.count(answer, n, rules, latest);
-                up.count(answer, n, rules, latest);
-                first.count(answer, n, rules, latest);
+                let answer = searched(rules, latest);
+                run.count(answer, by_run(n, rules, latest));
+                down.count(answer, by_hand(Order::Down, n, rules, latest));
+                up.count(answer, by_hand(Order::Up, n, rules, latest));
+                first.count(answer, by_hand(Order::First, n, rules, latest));
             }
         }
     }
-    for sums in [down, up, first] {
-        println!(rt; "JOBS {n} RULES {count} {sums}")?;
+    for (name, sums) in [("RUN", run), ("DOWN", down), ("UP", up), ("FIRST", first)] {
+        println!(rt; "JOBS {n} RULES {count} {name} {sums}")?;
     }
     Ok(())
 }

@@ -24,7 +24,6 @@ use Rattle.derivation.specs.declared.Tally.{Tally}
 use Rattle.derivation.specs.Step.{lowest, in_range, below_floor, sum_z, fits}
 use Rattle.derivation.proofs.Reached.{test_high, floor_low}
 use Rattle.maxatom.proofs.Signed.{fits_make}
-use Rattle.solver.specs.Rules.{Lowerable}
 
 sum_bound : (rules : List Rule) → Each (λ (r : Rule). nat_abs r.k ≤ 20160) rules → total rules ≤ length rules * 20160
 unfolding total
@@ -147,9 +146,6 @@ module _ {b : Book} (a : Accepted b) {times : List ℤ} (held : Legal (lowest b)
       lower : left_side r times <ℤ time_at times r.z
       unfolding satisfied
       lower = le_false _ _ violated
-
-      pub lowerable : Lowerable r times
-      lowerable = record { fits = left_fits; below = lower }
 
       pub off_bound : minutes_off (time_at times r.z) (left_side r times) ≤ 20684160
       off_bound =

@@ -19,6 +19,6 @@ pub fn solve(rules: &[Rule], latest: &[i32], k: u32, times: &mut [i32]) -> Solve
     times.copy_from_slice(latest);
     match run::run(rules, floor(smallest(latest), k), times) {
         Ok(steps) => Solved::Plan(steps),
-        Err(fall) => Solved::None(fall.steps, fall.job),
+        Err(fall) => Solved::None(fall.steps, fall.slip),
     }
 }

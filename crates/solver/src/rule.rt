@@ -1,11 +1,13 @@
 // One rule at an assignment.
 ghost use Rattle.std.specs.Prelude.{◌≡◌, length, set};
-ghost use Rattle.maxatom.specs.Rule.{left_side, satisfied, tight, time_at, minutes_off};
+ghost use Rattle.std.specs.Int.{w32};
+ghost use Rattle.std.proofs.Common.{SFits};
+ghost use Rattle.maxatom.specs.Rule.{left_side, satisfied, tight};
 ghost use Rattle.maxatom.specs.Clauses.{clause_of, InJobs};
-ghost use Rattle.solver.specs.Rules.{Lowerable};
+ghost use Rattle.derivation.specs.Step.{slip_of};
 
 use clauses::AsClause;
-use maxatom::Rule;
+use maxatom::{Rule, Slip};
 
 // max(x, y) + k.
 #[tactic(auto, using(maxatom::proofs::Rules::left_same))]
@@ -32,16 +34,20 @@ pub fn is_equality(r: Rule, times: &[i32]) -> bool
     i64::from(times[r.z as usize]) == left_side(r, times)
 }
 
-// Sets z's time to the rule's left side, and tells the minutes taken off.
-pub fn lower(r: Rule, times: &mut [i32]) -> u64
+// Sets z's time to the rule's left side, and tells what that takes off.
+pub fn lower(r: Rule, times: &mut [i32]) -> Slip
     requires in_jobs { InJobs (length times.old) (clause_of r) }
-    requires lowerable { Lowerable r times.old }
-    ensures value { result ≡ minutes_off (time_at times.old r.z) (left_side r times.old) }
+    requires fits { SFits w32 (left_side r times.old) }
+    ensures told { result ≡ slip_of r times.old }
     ensures times_after { times.new ≡ set times.old r.z (left_side r times.old) }
 {
-    let z = r.z as usize;
-    let left = left_side(r, times);
-    let before = i64::from(times[z]);
-    times[z] = left as i32;
-    (before - left) as u64
+    let after = left_side(r, times) as i32;
+    let time = &mut times[r.z as usize];
+    let before = *time;
+    *time = after;
+    Slip {
+        job: r.z,
+        before,
+        after,
+    }
 }

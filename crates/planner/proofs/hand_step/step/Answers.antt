@@ -5,6 +5,7 @@ use Rattle.std.proofs.lemmas.Result.{err_from_is_err_and}
 use Rattle.maxatom.specs.Book.{book}
 use Rattle.derivation.specs.Faults.{refusal_for}
 use Rattle.derivation.specs.declared.Fault.TheVariants.{NoSuchRule}
+use Rattle.derivation.specs.Refusals.{answer}
 use Rattle.derivation.specs.Replies.{state_of}
 use Rattle.derivation.specs.Step.{State}
 use Rattle.solver.proofs.Steps.{legal_sum}
@@ -98,5 +99,5 @@ returns c =
     let range = at_lowest _ c.args.times.now c.in_ok-k.ensures (search rules) c.smallest-least.ensures (search rules) c.floor-lowest.ensures c.if-not-in_range.ensures in
     let above = at_floor _ c.args.times.now c.in_ok-k.ensures (search rules) c.smallest-least.ensures (search rules) c.floor-floor.ensures c.if-below_floor.ensures in
     let e = step_done _ (state_of c.args.times.now c.args.tally.now) c.args.number c.in_ok-k.ensures range (sym c.if-not-tally_fits.ensures) h above (sym (rw r at c.if-is_satisfied.ensures)) in
-    let s = rw r at c.take_step.ensures in
-    rw e (record { said = refl; times_after = ap (λ (state : State). state.times) s; tally_after = ap (λ (state : State). state.tally) s })
+    let s = rw r at c.take_step.ensures.state_after in
+    rw e (record { said = ap answer (rw r at c.take_step.ensures.told); times_after = ap (λ (state : State). state.times) s; tally_after = ap (λ (state : State). state.tally) s })
