@@ -843,6 +843,7 @@ static uint8_t stack_file[MARLINFRAY_FILE_BYTES], stack_bytes[MARLINFRAY_PLAN_BY
 static size_t stack_length;
 static Out stack_out;
 static marlinfray_tally stack_tally;
+static marlinfray_slip stack_slip;
 static size_t stack_number;
 
 // A call; it answers something, so that it is no jump.
@@ -887,6 +888,13 @@ static int initial_call(void) {
 static int step_call(void) {
     const Book *b = stack_book;
     marlinfray_step(b->n, b->rules, b->count, b->latest, b->n, stack_out.times, b->n, &stack_tally, stack_number, &stack_out.reply);
+    return 0;
+}
+
+static int step_back_call(void) {
+    const Book *b = stack_book;
+    stack_slip = (marlinfray_slip){stack_out.reply.first, stack_out.reply.before, stack_out.reply.after};
+    marlinfray_step_back(b->n, b->rules, b->count, b->latest, b->n, stack_out.times, b->n, &stack_tally, &stack_slip, &stack_out.reply);
     return 0;
 }
 
@@ -938,7 +946,8 @@ static int stacks(void) {
         Body *body;
     } calls[] = {
         {"read_book", read_book_call}, {"record", record_call},   {"class", class_call}, {"first_violated", first_violated_call},
-        {"is_tight", is_tight_call},   {"initial", initial_call}, {"step", step_call},   {"write_plan", write_plan_call},
+        {"is_tight", is_tight_call},   {"initial", initial_call}, {"step", step_call},   {"step_back", step_back_call},
+        {"write_plan", write_plan_call},
     };
     const Family f = {"", random_latest, OFFSET, JOBS, RULES, 0, 29};
     const Book *b = stack_book = make(&f, f.offset, 0);

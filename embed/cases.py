@@ -30,6 +30,7 @@ REFUSALS = {
     "is_tight": {4, 5, 6, 7, 8, 21, 24},
     "initial": {4, 8, 21},
     "step": {4, 5, 6, 7, 8, 21, 22, 23, 24, 25, 26},
+    "step_back": {4, 5, 6, 7, 8, 21, 22, 23, 27, 28, 29},
     "solve": {4, 5, 6, 7, 8, 21},
     "write_plan": {4, 21},
 }
@@ -100,13 +101,27 @@ def initial(n, latest, times):
     line("initial", reply, number(n), listed(n, latest), lent(packed(times), packed(after)))
 
 
-def step(n, rules, latest, times, tally, rule):
-    """A hand step; answers the times and the tally that it leaves."""
-    reply, after, tally_after = ref.step(n, rules, latest, times, tally, rule)
+def on_board(call, n, rules, latest, times, tally, last, written):
+    """A call that changes a board and its tally, with its last argument and how a line has that; answers what the reference does."""
+    reply, after, tally_after = getattr(ref, call)(n, rules, latest, times, tally, last)
     board = lent(packed(times), packed(after))
     tallies = (struct.pack("<2Q", *t) for t in (tally, tally_after))
-    line("step", reply, number(n), lent(table(rules)), listed(n, latest), board, lent(*tallies), number(rule))
-    return after, tally_after
+    line(call, reply, number(n), lent(table(rules)), listed(n, latest), board, lent(*tallies), written)
+    return reply, after, tally_after
+
+
+def step(n, rules, latest, times, tally, rule):
+    """A hand step; answers its slip, or None where it is refused, and the times and the tally that it leaves."""
+    (kind, job, _, *both), *state = on_board("step", n, rules, latest, times, tally, rule, number(rule))
+    return None if kind else (job, *both), *state
+
+
+def step_back(n, rules, latest, times, tally, slip):
+    """A step back; answers whether it is done, and the times and the tally that it leaves."""
+    job, before, after = slip
+    written = lent(struct.pack("<2H2i", job, rng.getrandbits(16), before, after))
+    reply, *state = on_board("step_back", n, rules, latest, times, tally, slip, written)
+    return not reply[0], *state
 
 
 def solve(n, rules, latest, times):
@@ -279,6 +294,27 @@ def held_tally(latest, times):
     return steps, minutes
 
 
+def any_slip(n, latest, times):
+    """A slip that fits the board, or one of which up to two numbers may not."""
+    job = rng.randrange(n)
+    last, now = latest[job], times[job]
+    slip = [job, rng.choice((last, now + 1, rng.randint(min(now, last), last))), now]
+    for _ in range(rng.choice((0, 0, 0, 1, 2))):
+        kind = rng.randrange(3)
+        jobs = rng.randrange(n), n, 255, 256, 65535
+        minutes = last, last + 1, now - 1, now, now + 1, 2**31 - 1, -(2**31)
+        slip[kind] = rng.choice(minutes if kind else jobs)
+    job, *both = slip
+    return job, *(max(min(t, 2**31 - 1), -(2**31)) for t in both)
+
+
+def slip_tally(latest, times, slip):
+    """A tally that fits the times, and would or would not once the slip is taken back."""
+    minutes = max(sum(latest) - sum(times), 0)
+    left = minutes - (slip[1] - slip[2])
+    return min(max(rng.choice((0, 1, left, left + 1, left + 2, minutes)), 0), minutes), minutes
+
+
 # ---- cases of each call
 
 
@@ -286,28 +322,66 @@ def table_calls(n, rules, latest, turns):
     """A book that is not refused, through all calls that read its list."""
     solve(n, rules, latest, any_times(n))
     initial(n, latest, any_times(n))
-    plan, _, _ = ref.run(rules, latest)
+    plan, steps, fall = ref.run(rules, latest)
     first_violated(n, rules, latest, plan)
+    if fall:
+        back_from_none(n, rules, latest, plan, steps, fall)
     for _ in range(turns):
         times = rng.choice((plan, any_times(n), latest, [t + rng.randint(-1, 1) for t in plan]))
         first_violated(n, rules, latest, times)
         is_tight(n, rules, latest, times, rule_numbers(rules))
         times = held_board(rules, latest)
-        step(n, rules, latest, times, held_tally(latest, times), rule_numbers(rules))
-    times, tally = latest, (0, 0)
-    for _ in range(2 * turns):
+        tally = held_tally(latest, times)
+        slip, *state = step(n, rules, latest, times, tally, rule_numbers(rules))
+        if slip:
+            assert step_back(n, rules, latest, *state, slip) == (True, times, tally)
+        slip = any_slip(n, latest, times)
+        step_back(n, rules, latest, times, rng.choice((tally, slip_tally(latest, times, slip))), slip)
+    mixed(n, rules, latest, latest, (0, 0), 4 * turns)
+
+
+def mixed(n, rules, latest, times, tally, turns):
+    """Hand steps and steps back on a board, in stretches with more of the one or of the other. Half of the slips are those of steps that
+    were not taken back yet, the last one first; the others are those of any steps, or forged."""
+    given, untaken, share = [], [], rng.random()
+    for turn in range(turns):
+        if turn % 8 == 7:
+            share = rng.random()
         numbers = ref.broken(rules, times)
-        rule = rng.choice(numbers) if numbers and rng.random() < 0.8 else rule_numbers(rules)
-        times, tally = step(n, rules, latest, times, tally, rule)
+        if turn > 3 and not numbers and not tally[0]:
+            return  # there is nothing to take off or back
+        back = tally[0] > 0 and (not numbers or rng.random() < share)
+        if rng.random() < 0.1:
+            back = not back
+        if back:
+            slip = untaken.pop() if untaken and rng.random() < 0.5 else rng.choice(given[-4:] + [any_slip(n, latest, times)] * 3)
+            _, times, tally = step_back(n, rules, latest, times, tally, slip)
+        else:
+            rule = rng.choice(numbers) if numbers and rng.random() < 0.9 else rule_numbers(rules)
+            slip, times, tally = step(n, rules, latest, times, tally, rule)
+            if slip:
+                given.append(slip)
+                untaken.append(slip)
+
+
+def back_from_none(n, rules, latest, times, steps, slip):
+    """Steps back from where a run for none ends: the board shows none there, and hand steps are refused."""
+    tally = steps, ref.depth(latest, times)
+    step(n, rules, latest, times, tally, rng.randrange(len(rules)))
+    step_back(n, rules, latest, times, tally, any_slip(n, latest, times))
+    _, times, tally = step_back(n, rules, latest, times, tally, slip)
+    mixed(n, rules, latest, times, tally, 3)
 
 
 def every_call(n, rules, latest, times, tally, rule):
     """The same through each call that reads a list."""
+    slip = rng.choice((0, min(n, 65535), 65535)), *rng.choice(((0, -1), (-1, 0), any_times(2)))
     solve(n, rules, latest, times)
     initial(n, latest, times)
     first_violated(n, rules, latest, times)
     is_tight(n, rules, latest, times, rule)
     step(n, rules, latest, times, tally, rule)
+    step_back(n, rules, latest, times, tally, slip)
 
 
 def refused_tables(n, rules, latest):
@@ -367,6 +441,50 @@ def lists():
             latest = any_latest(n)
             latest[first], latest[second] = rng.sample((1, -OFFSET - 1), 2)
             every_call(n, rules, latest, latest, (0, 0), 0)
+
+
+def slips():
+    """Slips and tallies at and past their bounds, and which of two refusals comes first."""
+    for n, job, fall in itertools.product((1, 2, 256), (0, -1), (1, 2, 7, OFFSET)):
+        rules = [(0, 0, 0, -OFFSET)] + any_rules(n, 2, OFFSET)
+        latest = any_latest(n)
+        job %= n
+        last, now = latest[job], latest[job] - fall
+        times = latest[:job] + [now] + latest[job + 1 :]
+        befores = last - 1, last, last + 1, now - 1, now, now + 1, 2**31 - 1, -(2**31)
+        afters = now, now - 1, now + 1, 2**31 - 1, -(2**31)
+        for slip in itertools.product({job, n, 65535}, befores, afters):
+            step_back(n, rules, latest, times, (rng.choice((0, 1, fall)), fall), slip)
+        # the tally, where another job is lowered too or none
+        for more in (0, 1, 2, 9) if n > 1 else (0,):
+            minutes = fall + more
+            board = list(times)
+            board[job - 1] -= more
+            for before in {last, now + 1, (last + now + 1) // 2}:
+                left = minutes - (before - now)
+                for steps in {0, 1, 2, left, left + 1, left + 2, minutes, minutes + 1}:
+                    step_back(n, rules, latest, board, (steps, minutes), (job, before, now))
+                # 22 and 23 come before 27
+                step_back(n, rules, latest, board, (minutes + 1, minutes), (n, before, now))
+                step_back(n, rules, latest, board, (0, minutes + 1), (n, before, now))
+                step_back(n, rules, latest, [t + 1 for t in board], (0, minutes), (n, before, now))
+    # there is no rule, or every rule is kept
+    step_back(2, [], [0, -5], [-3, -5], (1, 3), (0, 0, -3))
+    step_back(2, [], [0, -5], [-5, -5], (2, 5), (0, -1, -5))
+    step_back(2, [(0, 0, 1, 5)], [0, 0], [0, -4], (4, 4), (1, -3, -4))
+    # one job or two stand below the floor, and one goes back
+    rules = [(0, 0, 0, -1), (1, 1, 1, -2)]
+    for time in range(-6, 0):
+        for slip in ((0, 0, time), (0, time + 1, time), (1, 0, -6), (1, -3, -6)):
+            step_back(2, rules, [0, 0], [time, -6], (2, 6 - time), slip)
+
+
+def long_lists():
+    """Long lists of hand steps and steps back, on books with offsets so small that most steps take off few minutes."""
+    for size in (1, 1, 3, 60) * 10:
+        n = rng.randint(1, 5)
+        rules, latest = any_rules(n, rng.randint(1, 8), size), any_latest(n)
+        mixed(n, rules, latest, latest, (0, 0), 60)
 
 
 def long_runs():
@@ -553,6 +671,8 @@ if __name__ == "__main__":
     classes()
     tables()
     lists()
+    slips()
+    long_lists()
     long_runs()
     initial_boards()
     plans()

@@ -22,6 +22,9 @@ _Static_assert(offsetof(marlinfray_rule, x) == 0 && offsetof(marlinfray_rule, y)
                "a rule's fields stand at 0, 2, 4 and 8");
 _Static_assert(sizeof(marlinfray_tally) == 16, "a tally has 16 bytes");
 _Static_assert(offsetof(marlinfray_tally, steps) == 0 && offsetof(marlinfray_tally, minutes) == 8, "a tally's fields stand at 0 and 8");
+_Static_assert(sizeof(marlinfray_slip) == 12, "a slip has 12 bytes");
+_Static_assert(offsetof(marlinfray_slip, job) == 0 && offsetof(marlinfray_slip, before) == 4 && offsetof(marlinfray_slip, after) == 8,
+               "a slip's fields stand at 0, 4 and 8");
 _Static_assert(sizeof(marlinfray_reply) == 32, "a reply has 32 bytes");
 _Static_assert(offsetof(marlinfray_reply, kind) == 0 && offsetof(marlinfray_reply, first) == 8 &&
                    offsetof(marlinfray_reply, second) == 16 && offsetof(marlinfray_reply, before) == 24 &&
@@ -51,24 +54,33 @@ static Argument args[ARGUMENTS];
 static Buffer reply;
 static uint8_t guards[ROOM]; // what stands in a room outside the buffer
 
-// The calls. `types` has a letter for each argument: n a number, b bytes, r rules, t times or latest times, a a tally.
+// The calls. `types` has a letter for each argument: n a number, b bytes, r rules, t times or latest times, a a tally, s a slip.
 static const struct {
     const char *name, *types;
 } calls[] = {
-    {"read_book", "brt"}, {"record", "bn"},    {"class", "nnnn"}, {"first_violated", "nrtt"}, {"is_tight", "nrttn"},
-    {"initial", "ntt"},   {"step", "nrttan"}, {"solve", "nrtt"}, {"write_plan", "tbn"},
+    {"read_book", "brt"}, {"record", "bn"},   {"class", "nnnn"},       {"first_violated", "nrtt"}, {"is_tight", "nrttn"},
+    {"initial", "ntt"},   {"step", "nrttan"}, {"step_back", "nrttas"}, {"solve", "nrtt"},          {"write_plan", "tbn"},
 };
-enum { READ_BOOK, RECORD, CLASS, FIRST_VIOLATED, IS_TIGHT, INITIAL, STEP, SOLVE, WRITE_PLAN, CALLS };
+enum { READ_BOOK, RECORD, CLASS, FIRST_VIOLATED, IS_TIGHT, INITIAL, STEP, STEP_BACK, SOLVE, WRITE_PLAN, CALLS };
 
 static size_t size_of(char type) {
-    return type == 'b' ? 1 : type == 'r' ? sizeof(marlinfray_rule) : type == 't' ? sizeof(int32_t) : sizeof(marlinfray_tally);
+    switch (type) {
+    case 'b': return 1;
+    case 'r': return sizeof(marlinfray_rule);
+    case 't': return sizeof(int32_t);
+    case 's': return sizeof(marlinfray_slip);
+    default: return sizeof(marlinfray_tally);
+    }
 }
 
 static size_t align_of(char type) {
-    return type == 'b' ? 1 : type == 'r' || type == 't' ? 4 : 8;
+    return type == 'b' ? 1 : type == 'a' ? 8 : 4;
 }
 
-static unsigned long line_number, made[CALLS], refused[27];
+// The numbers of refusals are below NUMBERS; of those from 10 to 20 there are none.
+enum { NUMBERS = 30 };
+
+static unsigned long line_number, made[CALLS], refused[NUMBERS];
 static const char *call_name = "";
 
 static void wrong_line(const char *why) {
@@ -158,6 +170,9 @@ static void call(int c) {
     case STEP:
         marlinfray_step(a[0].number, lent[1], a[1].length, lent[2], a[2].length, lent[3], a[3].length, lent[4], a[5].number, r);
         break;
+    case STEP_BACK:
+        marlinfray_step_back(a[0].number, lent[1], a[1].length, lent[2], a[2].length, lent[3], a[3].length, lent[4], lent[5], r);
+        break;
     case SOLVE: marlinfray_solve(a[0].number, lent[1], a[1].length, lent[2], a[2].length, lent[3], a[3].length, r); break;
     case WRITE_PLAN: marlinfray_write_plan(lent[0], a[0].length, lent[1], a[1].length, a[2].number, r); break;
     }
@@ -217,7 +232,7 @@ static int check(char *line) {
             return 1;
     }
     made[c]++;
-    if (c != CLASS && expected.kind == MARLINFRAY_REFUSED && expected.first < 27)
+    if (c != CLASS && expected.kind == MARLINFRAY_REFUSED && expected.first < NUMBERS)
         refused[expected.first]++;
     return 0;
 }
@@ -253,7 +268,7 @@ int main(void) {
         printf("%s %s %lu", c ? "," : ":", calls[c].name, made[c]);
     printf("; refusals");
     int missing = 0;
-    for (int i = 1; i < 27; i++) {
+    for (int i = 1; i < NUMBERS; i++) {
         if (9 < i && i < 21)
             continue;
         printf("%s %d: %lu", i > 1 ? "," : "", i, refused[i]);

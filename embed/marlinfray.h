@@ -22,7 +22,7 @@
  *   State      Nothing is allocated, there is no state between calls, and no file, clock or setting is looked at. Of the C library
  *              memcpy, memset and their like are asked for, and nothing else. Every function is reentrant: threads and signal handlers
  *              may call at once, while none writes what another call has been lent.
- *   Stack      marlinfray_solve takes 121,720 bytes of stack, every other call fewer than 512.
+ *   Stack      marlinfray_solve takes 121,704 bytes of stack, every other call fewer than 512.
  */
 #ifndef MARLINFRAY_H
 #define MARLINFRAY_H
@@ -56,9 +56,15 @@ typedef struct {
     uint64_t steps, minutes;
 } marlinfray_tally;
 
+/* A slip tells what a step took off: the job that it lowered, the job's time before the step and its time after it. */
+typedef struct {
+    uint16_t job;
+    int32_t before, after;
+} marlinfray_slip;
+
 /*
  * A reply. What the numbers behind the kind are is said at each function; where nothing is said they are 0. `before` and `after` are
- * those of a slip, which tells what a step took off: the job that it lowered, the job's time before the step and its time after it.
+ * those of a slip.
  */
 typedef struct {
     uint64_t kind; /* one of the kinds below */
@@ -97,7 +103,10 @@ enum {
     MARLINFRAY_REFUSED_TALLY = 23,     /* the tally does not fit the board */
     MARLINFRAY_REFUSED_NUMBER = 24,    /* no rule has that number */
     MARLINFRAY_REFUSED_FLOOR = 25,     /* some job stands below the floor: the board shows that no timetable exists */
-    MARLINFRAY_REFUSED_SATISFIED = 26  /* the rule is kept, so that there is no step to take */
+    MARLINFRAY_REFUSED_SATISFIED = 26, /* the rule is kept, so that there is no step to take */
+    MARLINFRAY_REFUSED_SLIP_JOB = 27,  /* the slip names a job that the book has not */
+    MARLINFRAY_REFUSED_SLIP = 28,      /* the slip's times do not fit the board */
+    MARLINFRAY_REFUSED_SHORT = 29      /* the tally has no step, or would not fit the board any more */
 };
 
 /* Classes of a rule. */
@@ -169,6 +178,20 @@ void marlinfray_initial(size_t n, const int32_t *latest, size_t latest_len, int3
  */
 void marlinfray_step(size_t n, const marlinfray_rule *rules, size_t rules_len, const int32_t *latest, size_t latest_len,
                      int32_t *times, size_t times_len, marlinfray_tally *tally, size_t number, marlinfray_reply *reply);
+
+/*
+ * Takes a step back: sets the job of a slip to the slip's time before. The slip may be any three numbers: what counts is that it fits
+ * the board and the tally, not where it comes from. That of a step just taken does, and brings back both as they were before the step.
+ * Done: times[slip->job] is slip->before, the tally has one step less, and as many minutes less as the job was raised by.
+ * Refused: up to 23 as the hand step; then 27; 28, where times[slip->job] is not slip->after, or slip->before is not above that or is
+ * past the job's latest time; 29, where the tally has no step, or with one step and those minutes less would have more steps than
+ * minutes. 24 to 26 do not concern it: a board may be stepped back from though it shows that no timetable exists.
+ * What is said of 22 and 23 at the hand step holds with steps back among the calls too, whatever their slips. The tally then has the
+ * steps taken less those taken back, and a board on which every rule is kept is the plan.
+ */
+void marlinfray_step_back(size_t n, const marlinfray_rule *rules, size_t rules_len, const int32_t *latest, size_t latest_len,
+                          int32_t *times, size_t times_len, marlinfray_tally *tally, const marlinfray_slip *slip,
+                          marlinfray_reply *reply);
 
 /*
  * The bench run: from a fresh board, passes over the rules from 0 upward with a step on each broken one, until a pass without a step

@@ -155,10 +155,10 @@ def by_hand(order):
     """Hand steps in an order, until no rule is broken or a time is below the floor: the times and the steps."""
 
     def end(rules, latest):
-        times, steps = list(latest), 0
+        times, steps, lowest = list(latest), 0, floor(rules, latest)
         for turn in itertools.count():
             numbers = broken(rules, times)
-            if not numbers or min(times) < floor(rules, latest):
+            if not numbers or min(times) < lowest:
                 return times, steps
             number = order(turn, numbers)
             if number in numbers:
@@ -181,9 +181,94 @@ def searched(keeping):
     return list(map(max, zip(*set.intersection(*keeping)))) or None
 
 
+def honest(turn, n, latest, times, slips, numbers, draws):
+    """Hand steps on the first broken rule, and each third call takes back the last step that still stands."""
+    if turn % 3 < 2:
+        return "step", numbers[0] if numbers else 0
+    return "back", slips[-1]
+
+
+def forged(turn, n, latest, times, slips, numbers, draws):
+    """Hand steps on rules 0 and 1 in turn, and each third call puts a job back at its latest time."""
+    if turn % 3 < 2:
+        return "step", turn % 2
+    job = turn // 3 % n
+    return "back", (job, latest[job], times[job])
+
+
+def by_chance(turn, n, latest, times, slips, numbers, draws):
+    """A call by a number: a hand step, or a step back by a slip of the list, by one made up that fits the job, or by any."""
+    number = next(draws)
+    kind, more = number % 16, number // 16
+    if kind < 8:
+        return "step", more % (2 if kind else 3)
+    if kind < 12:
+        return "back", slips[more % len(slips)]
+    if kind < 15:
+        after = times[more % n]
+        return "back", (more % n, after + 1 + more // 4 % 2, after)
+    return "back", (more % 4, 1 - more // 4 % 8, -(more // 32 % 8))
+
+
+def book_number(n, rules, latest):
+    """The number of a book: the digits are the latest times, and then each rule's jobs and its offset."""
+    number = 0
+    for x, y, z, k in rules[::-1]:
+        number = (((3 * number + k + 1) * n + z) * n + y) * n + x
+    return 27 * number + sum(-last * 3**job for job, last in enumerate(latest))
+
+
+def drawn(state):
+    """Numbers by chance, the same in each run."""
+    while True:
+        state = (state * 6364136223846793005 + 1442695040888963407) % 2**64
+        yield state >> 33
+
+
+def promised(rules, lowest, bound, plan, times, tally):
+    """The broken rules of a board, which is what its book's plan, or that there is none, promises of it, with this floor and this bound of
+    the steps."""
+    numbers = broken(rules, times)
+    if plan:
+        assert all(a >= b for a, b in zip(times, plan)) and min(times) >= lowest and (times == plan) == (not numbers)
+        assert tally[0] < bound or (tally[0] == bound and not numbers)
+    else:
+        assert numbers and (tally[0] <= bound or (tally[0] == bound + 1 and min(times) < lowest))
+    return numbers
+
+
+def played(mix, n, rules, latest, plan):
+    """A list of twelve calls from a fresh board: how many hand steps and steps back were done, and how many calls got 24 to 29."""
+    times, tally, slips, done = list(latest), (0, 0), [(0, 0, 0)], [0] * 8
+    lowest = floor(rules, latest)
+    bound = sum(latest) - lowest * n
+    draws = drawn(book_number(n, rules, latest))
+    numbers = promised(rules, lowest, bound, plan, times, tally)
+    for turn in range(12):
+        kind, what = mix(turn, n, latest, times, slips, numbers, draws)
+        if kind == "step":
+            f = step_fault(rules, lowest, times, what)
+        else:
+            f = back_fault(n, latest, times, tally, what)
+        if f:
+            done[f[0] - 22] += 1
+            continue
+        if kind == "step":
+            slips.append(lower(rules[what], times))
+            done[0] += 1
+        else:
+            times[what[0]] = what[1]
+            done[1] += 1
+            if mix is honest:
+                slips.pop()
+        tally = done[0] - done[1], depth(latest, times)
+        numbers = promised(rules, lowest, bound, plan, times, tally)
+    return done
+
+
 def small_books(n, count):
-    """All books of `count` rules with offsets -1 to 1, with latest times -2 to 0 that ascend, by the bench run and by hand steps in each
-    order. The search is over all times from -6 up to the latest times."""
+    """All books of `count` rules with offsets -1 to 1, with latest times -2 to 0 that ascend, by the bench run, by hand steps in each order
+    and by lists of hand steps and steps back. The search is over all times from -6 up to the latest times."""
     rules = list(itertools.product(range(n), range(n), range(n), (-1, 0, 1)))
     times = list(itertools.product(range(-6, 1), repeat=n))
     keeping = {rule: {t for t in times if not broken([rule], t)} for rule in rules}
@@ -203,6 +288,13 @@ def small_books(n, count):
             differing += min(end) >= floor(b, latest) if plan is None else end != plan
         out += "JOBS %d RULES %d %s BOOKS %d PLANS %d NONES %d STEPS %d MINUTES %d DIFFERING %d\n" % (
             n, count, name, len(books), len(books) - nones, nones, taken, minutes, differing,
+        )
+    for name, mix in (("HONEST", honest), ("FORGED", forged), ("CHANCE", by_chance)):
+        done = [0] * 8
+        for b, latest, plan in books:
+            done = [a + c for a, c in zip(done, played(mix, n, b, latest, plan))]
+        out += "JOBS %d RULES %d %s BOOKS %d STEPS %d BACKS %d REFUSED %d %d %d %d %d %d DIFFERING 0\n" % (
+            n, count, name, len(books), *done,
         )
     return out
 
@@ -338,24 +430,54 @@ def legal(rules, latest, times):
     return all(lowest <= t <= last for last, t in zip(latest, times))
 
 
-def step(n, rules, latest, times, tally, number):
-    """A hand step: its reply, and the times and the tally afterwards."""
+def state_fault(n, rules, latest, times, tally):
+    """The refusals that all calls on a board and its tally have: number and place, or None."""
     f = fault(n, rules, latest, times)
     if not f and not legal(rules, latest, times):
         f = 22, 0
     if not f and (tally[1] != depth(latest, times) or tally[0] > tally[1]):
         f = 23, 0
-    if not f and number >= len(rules):
-        f = 24, 0
-    if not f and min(times) < floor(rules, latest):
-        f = 25, 0
-    if not f and number not in broken(rules, times):
-        f = 26, 0
+    return f
+
+
+def step_fault(rules, lowest, times, number):
+    """The refusals of a hand step, on a board that its tally fits, with this floor."""
+    if number >= len(rules):
+        return 24, 0
+    if min(times) < lowest:
+        return 25, 0
+    return (26, 0) if times[rules[number][2]] <= left(rules[number], times) else None
+
+
+def step(n, rules, latest, times, tally, number):
+    """A hand step: its reply, and the times and the tally afterwards."""
+    f = state_fault(n, rules, latest, times, tally) or step_fault(rules, floor(rules, latest), times, number)
     if f:
         return refused(f), times, tally
     times = list(times)
     job, before, after = lower(rules[number], times)
     return answered(0, job, 0, before, after), times, (tally[0] + 1, tally[1] + before - after)
+
+
+def back_fault(n, latest, times, tally, slip):
+    """The refusals of a step back, on a board that its tally fits."""
+    job, before, after = slip
+    if job >= n:
+        return 27, 0
+    if not times[job] == after < before <= latest[job]:
+        return 28, 0
+    return None if 0 <= tally[0] - 1 <= tally[1] - (before - after) else (29, 0)
+
+
+def step_back(n, rules, latest, times, tally, slip):
+    """A step taken back: its reply, and the times and the tally afterwards."""
+    f = state_fault(n, rules, latest, times, tally) or back_fault(n, latest, times, tally, slip)
+    if f:
+        return refused(f), times, tally
+    job, before, after = slip
+    times = list(times)
+    times[job] = before
+    return answered(0), times, (tally[0] - 1, tally[1] - (before - after))
 
 
 def write_plan(times, out, at):
@@ -406,6 +528,10 @@ def step_word(reply):
     return words(reply, " STEPPED {0} {2} {3}")
 
 
+def back_word(reply):
+    return words(reply, " BACK")
+
+
 def fresh_word(reply):
     return words(reply, " FRESH")
 
@@ -426,21 +552,37 @@ def tally_word(tally):
     return " TALLY %d %d" % tally
 
 
+def slip_of(reply):
+    """The slip of a reply that has one for its answer."""
+    return reply[1], reply[3], reply[4]
+
+
 def bench_line(n, rules, latest):
-    """The latest times, the classes, the bench run, and the kept and the tight test on what it leaves."""
+    """The latest times, the classes, the bench run, and the kept and the tight test on what it leaves; for none, its last step is then
+    taken back."""
     reply, times = solved(n, rules, latest, [7] * n)
     out = " BOOK %d %d" % (n, len(rules)) + latest_word(latest) + "".join(CLASSES[class_of(*r)] for r in rules)
     out += solved_word(reply) + times_word(times) + kept_word(kept(n, rules, latest, times))
-    return out + "".join(tight_word(tight(n, rules, latest, times, i)) for i in range(len(rules)))
+    out += "".join(tight_word(tight(n, rules, latest, times, i)) for i in range(len(rules)))
+    if reply[0] == 0:
+        return out
+    reply, times, tally = step_back(n, rules, latest, times, (reply[1], depth(latest, times)), reply[2:])
+    return out + back_word(reply) + times_word(times) + tally_word(tally)
 
 
 def hand_line(n, rules, latest):
-    """A fresh board, and three rounds of hand steps on it, on each rule and then on none."""
+    """A fresh board, and three rounds of hand steps on it, on each rule and then on none; then each step taken back, the last one first,
+    and the first one once more."""
     reply, times = initial(n, latest, [7] * n)
-    tally, out = (0, 0), fresh_word(reply)
+    tally, slips, out = (0, 0), [], fresh_word(reply)
     for number in list(range(len(rules) + 1)) * 3:
         reply, times, tally = step(n, rules, latest, times, tally, number)
         out += step_word(reply)
+        slips += [slip_of(reply)] if reply[0] == 0 else []
+    out += times_word(times) + tally_word(tally)
+    for slip in slips[::-1] + slips[:1]:
+        reply, times, tally = step_back(n, rules, latest, times, tally, slip)
+        out += back_word(reply)
     return out + times_word(times) + tally_word(tally)
 
 
@@ -460,7 +602,10 @@ def each_call(n, rules, latest, length):
     reply, board = initial(n, latest, [7] * length)
     out += fresh_word(reply)
     reply, board, tally = step(n, rules, latest, board, (0, 0), 0)
-    return out + step_word(reply) + tally_word(tally), times, board
+    out += step_word(reply) + tally_word(tally)
+    slip = slip_of(reply) if reply[0] == 0 else (65535, 0, 0)
+    reply, board, tally = step_back(n, rules, latest, board, tally, slip)
+    return out + back_word(reply) + tally_word(tally), times, board
 
 
 def limit_line(n, rule, count, minute, length):
@@ -491,6 +636,13 @@ def held_line(latest, times, tally, number):
     return out + times_word(after) + tally_word(tally_after)
 
 
+def back_line(rules, latest, times, tally, slip):
+    """A step back by any slip, from any board and tally."""
+    reply, after, tally_after = step_back(len(times), rules, latest, times, tally, slip)
+    out = "BACK %d" % len(rules) + latest_word(latest) + times_word(times) + tally_word(tally) + " SLIP %d %d %d" % slip
+    return out + back_word(reply) + times_word(after) + tally_word(tally_after)
+
+
 def latest_limits():
     """Files with latest times at and past the limits, each under its name."""
     yield "minute -20160", book(2, []) + latest_record(1, -20160)
@@ -507,6 +659,48 @@ def latest_limits():
 
 
 EARLIEST = book(2, [], [0, -20160])
+
+
+# Boards of two jobs and tallies, and slips for steps back. The rule puts job 1 three minutes before job 0, and the latest times are 0
+# and -2, so that the floor is -5 and times may be from -8.
+BACKS = [
+    # 22, then 23, then 27, then 28, then 29.
+    ([1, -4], (0, 0), (2, 0, 0)),
+    ([0, -9], (0, 0), (2, 0, 0)),
+    ([0, -8], (1, 5), (2, 0, 0)),
+    ([0, -8], (7, 6), (2, 0, 0)),
+    ([0, -4], (0, 2), (2, 0, 0)),
+    ([0, -4], (0, 2), (1, -1, -4)),
+    # The job.
+    ([0, -4], (1, 2), (2, -2, -4)),
+    ([0, -4], (1, 2), (65535, -2, -4)),
+    ([0, -4], (1, 2), (1, -2, -4)),
+    ([0, -4], (1, 2), (0, -2, -4)),
+    # The time after.
+    ([0, -4], (1, 2), (1, -2, -3)),
+    ([0, -4], (1, 2), (1, -2, -5)),
+    ([0, -4], (1, 2), (1, -2, -(2**31))),
+    # The time before.
+    ([0, -4], (1, 2), (1, -5, -4)),
+    ([0, -4], (1, 2), (1, -4, -4)),
+    ([0, -4], (1, 2), (1, -3, -4)),
+    ([0, -4], (1, 2), (1, -1, -4)),
+    ([0, -4], (1, 2), (1, 2**31 - 1, -4)),
+    ([-1, -2], (1, 1), (0, 0, -1)),
+    ([-1, -2], (1, 1), (0, 1, -1)),
+    # The tally.
+    ([0, -4], (0, 2), (1, -2, -4)),
+    ([0, -4], (0, 2), (1, -3, -4)),
+    ([0, -4], (2, 2), (1, -2, -4)),
+    ([0, -4], (2, 2), (1, -3, -4)),
+    ([-1, -4], (2, 3), (1, -2, -4)),
+    ([-1, -4], (3, 3), (1, -2, -4)),
+    # Boards with nothing broken, and boards that show none.
+    ([0, -5], (1, 3), (1, -2, -5)),
+    ([0, -6], (1, 4), (1, -5, -6)),
+    ([0, -7], (1, 5), (1, -6, -7)),
+    ([0, -8], (1, 6), (1, -2, -8)),
+]
 
 
 def calls():
@@ -538,6 +732,8 @@ def calls():
     for c in ((-4, (0, 0), 0), (-8, (3, 3), 0), (-6, (1, 0), 0), (-6, (1, 6), 0), (-6, (1, 1), 1), (-7, (2, 2), 0), (-6, (1, 1), 0)):
         lines.append(held_line([-5], [c[0]], *c[1:]))
     lines += [held_line([0, -5], list(times), (0, -times[0]), 0) for times in ((0, -4), (0, -5), (-6, -5), (-7, -5), (-8, -5))]
+    lines += [back_line([(0, 0, 1, -3)], [0, -2], *c) for c in BACKS]
+    lines.append(back_line([], [0, -2], [-2, -2], (2, 2), (0, -1, -2)))
     return "\n".join(lines) + "\n"
 
 

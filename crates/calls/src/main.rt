@@ -6,15 +6,30 @@ mod lending;
 mod said;
 
 use lending::{first, lent, read_book};
-use planner::{Counts, Rule, Tally, first_violated, initial, is_tight, solve, step};
-use said::{Book, Fresh, Kept, Kind, Minutes, Numbers, Run, Said, Stepped, Table, Tight, Told};
+use planner::{
+    Counts, Rule, Slip, Solved, Tally, first_violated, initial, is_tight, solve, step, step_back,
+};
+use said::{
+    Back, Book, Fresh, Kept, Kind, Minutes, Numbers, Off, Run, Said, Stepped, Table, Tight, Told,
+};
 use std::io;
 
 fn rule(x: u16, y: u16, z: u16, k: i32) -> Rule {
     Rule { x, y, z, k }
 }
 
-// A book: its latest times and its classes, what the bench run says and leaves, and the kept and the tight test on what it leaves.
+fn slip(job: u16, before: i32, after: i32) -> Slip {
+    Slip { job, before, after }
+}
+
+fn sum(minutes: &[i32]) -> i64 {
+    minutes
+        .iter()
+        .fold(0i64, |sum, t| sum.saturating_add(i64::from(*t)))
+}
+
+// A book: its latest times and its classes, what the bench run says and leaves, and the kept and the tight test on what it leaves. Where it
+// finds none, its last step is then taken back.
 fn bench(
     rt: &impl Print,
     n: usize,
@@ -29,7 +44,8 @@ fn bench(
         let kind = Kind(r.class());
         print!(rt; " {kind}")?;
     }
-    let run = Said(solve(n, rules, latest, times).map(|solved| Run(solved)));
+    let solved = solve(n, rules, latest, times);
+    let run = Said(solved.map(|solved| Run(solved)));
     let left = Minutes("TIMES", times);
     let kept = Said(first_violated(n, rules, latest, times).map(|found| Kept(found)));
     print!(rt; " {run} {left} {kept}")?;
@@ -37,10 +53,36 @@ fn bench(
         let tight = Said(is_tight(n, rules, latest, times, number).map(|tight| Tight(tight)));
         print!(rt; " {tight}")?;
     }
+    if let Ok(Solved::None(steps, off)) = solved {
+        let below = sum(latest).saturating_sub(sum(times));
+        let mut tally = Tally {
+            steps,
+            minutes: u64::try_from(below).unwrap_or(0),
+        };
+        taken_back(rt, n, rules, latest, times, &mut tally, off)?;
+        let left = Minutes("TIMES", times);
+        let told = Told(tally);
+        print!(rt; " {left} {told}")?;
+    }
     Ok(())
 }
 
-// A fresh board, and three rounds of hand steps on it: on rule 0 upward, the last on no rule.
+// A step taken back, and what the call says.
+fn taken_back(
+    rt: &impl Print,
+    n: usize,
+    rules: &[Rule],
+    latest: &[i32],
+    times: &mut [i32],
+    tally: &mut Tally,
+    off: Slip,
+) -> io::Result<()> {
+    let back = Said(step_back(n, rules, latest, times, tally, off).map(|_| Back));
+    print!(rt; " {back}")
+}
+
+// A fresh board, and three rounds of hand steps on it: on rule 0 upward, the last on no rule. Then each step is taken back, the last one
+// first, and the first one once more.
 fn hand(
     rt: &impl Print,
     n: usize,
@@ -54,19 +96,36 @@ fn hand(
         steps: 0,
         minutes: 0,
     };
+    let mut slips = [slip(0, 0, 0); 24];
+    let mut count = 0usize;
     for _ in 0..3 {
         for number in 0..=rules.len() {
             let said = step(n, rules, latest, times, &mut tally, number);
             let stepped = Said(said.map(|off| Stepped(off)));
             print!(rt; " {stepped}")?;
+            if let Ok(off) = said {
+                if count < 24 {
+                    slips[count] = off;
+                    count += 1;
+                }
+            }
         }
+    }
+    let left = Minutes("TIMES", times);
+    let told = Told(tally);
+    print!(rt; " {left} {told}")?;
+    for off in slips[..count.min(24)].iter().rev() {
+        taken_back(rt, n, rules, latest, times, &mut tally, *off)?;
+    }
+    for off in &slips[..count.min(1)] {
+        taken_back(rt, n, rules, latest, times, &mut tally, *off)?;
     }
     let left = Minutes("TIMES", times);
     let told = Told(tally);
     print!(rt; " {left} {told}")
 }
 
-// A book: a line with the bench run, and one with hand steps.
+// A book: a line with the bench run, and one with hand steps and steps back.
 fn both(
     rt: &impl Print,
     name: &str,
@@ -142,7 +201,8 @@ fn step_of_l(rt: &impl Print) -> io::Result<()> {
     println!(rt; "L {stepped} {left} {told} {kept}")
 }
 
-// Each call that takes latest times: the bench run, the tests on what it leaves, the fresh board, and a hand step on that.
+// Each call that takes latest times: the bench run, the tests on what it leaves, the fresh board, a hand step on that, and the step taken
+// back, or none by a slip of a job that no book has.
 fn each_call(
     rt: &impl Print,
     n: usize,
@@ -162,7 +222,11 @@ fn each_call(
     let said = step(n, rules, latest, board, &mut tally, 0);
     let stepped = Said(said.map(|off| Stepped(off)));
     let told = Told(tally);
-    print!(rt; " {run} {kept} {tight} {fresh} {stepped} {told}")
+    print!(rt; " {run} {kept} {tight} {fresh} {stepped} {told}")?;
+    let off = said.unwrap_or(slip(65535, 0, 0));
+    taken_back(rt, n, rules, latest, board, &mut tally, off)?;
+    let told = Told(tally);
+    print!(rt; " {told}")
 }
 
 // A table of `count` times one rule, with one latest time for all jobs, and with list and buffers of a length.
@@ -278,6 +342,85 @@ fn held(
     println!(rt; " {stepped} {left} {told}")
 }
 
+// A step back by any slip, from any board and tally.
+fn back(
+    rt: &impl Print,
+    rules: &[Rule],
+    latest: &[i32],
+    times: &mut [i32],
+    steps: u64,
+    minutes: u64,
+    off: Slip,
+) -> io::Result<()> {
+    let mut tally = Tally { steps, minutes };
+    let count = rules.len();
+    let last = Minutes("LATEST", latest);
+    let board = Minutes("TIMES", times);
+    let told = Told(tally);
+    let taken = Off(off);
+    print!(rt; "BACK {count} {last} {board} {told} SLIP {taken}")?;
+    taken_back(rt, times.len(), rules, latest, times, &mut tally, off)?;
+    let left = Minutes("TIMES", times);
+    let told = Told(tally);
+    println!(rt; " {left} {told}")
+}
+
+// Steps back on a board of two jobs, whose rule puts job 1 three minutes before job 0: the floor is -5, and times may be from -8. A case is
+// the two times, the tally's steps and minutes, and the slip.
+fn backs(rt: &impl Print) -> io::Result<()> {
+    let rules = [rule(0, 0, 1, -3)];
+    let latest = [0, -2];
+    for (first, last, steps, minutes, job, before, after) in [
+        // 22, then 23, then 27, then 28, then 29.
+        (1, -4, 0, 0, 2, 0, 0),
+        (0, -9, 0, 0, 2, 0, 0),
+        (0, -8, 1, 5, 2, 0, 0),
+        (0, -8, 7, 6, 2, 0, 0),
+        (0, -4, 0, 2, 2, 0, 0),
+        (0, -4, 0, 2, 1, -1, -4),
+        // The job.
+        (0, -4, 1, 2, 2, -2, -4),
+        (0, -4, 1, 2, 65535, -2, -4),
+        (0, -4, 1, 2, 1, -2, -4),
+        (0, -4, 1, 2, 0, -2, -4),
+        // The time after.
+        (0, -4, 1, 2, 1, -2, -3),
+        (0, -4, 1, 2, 1, -2, -5),
+        (0, -4, 1, 2, 1, -2, -2147483648),
+        // The time before.
+        (0, -4, 1, 2, 1, -5, -4),
+        (0, -4, 1, 2, 1, -4, -4),
+        (0, -4, 1, 2, 1, -3, -4),
+        (0, -4, 1, 2, 1, -1, -4),
+        (0, -4, 1, 2, 1, 2147483647, -4),
+        (-1, -2, 1, 1, 0, 0, -1),
+        (-1, -2, 1, 1, 0, 1, -1),
+        // The tally.
+        (0, -4, 0, 2, 1, -2, -4),
+        (0, -4, 0, 2, 1, -3, -4),
+        (0, -4, 2, 2, 1, -2, -4),
+        (0, -4, 2, 2, 1, -3, -4),
+        (-1, -4, 2, 3, 1, -2, -4),
+        (-1, -4, 3, 3, 1, -2, -4),
+        // Boards with nothing broken, and boards that show none.
+        (0, -5, 1, 3, 1, -2, -5),
+        (0, -6, 1, 4, 1, -5, -6),
+        (0, -7, 1, 5, 1, -6, -7),
+        (0, -8, 1, 6, 1, -2, -8),
+    ] {
+        back(
+            rt,
+            &rules,
+            &latest,
+            &mut [first, last],
+            steps,
+            minutes,
+            slip(job, before, after),
+        )?;
+    }
+    back(rt, &[], &latest, &mut [-2, -2], 2, 2, slip(0, -1, -2))
+}
+
 fn main(rt: HostRuntime) -> io::Result<()> {
     for (name, file) in [
         ("A", example_books::A),
@@ -371,5 +514,5 @@ fn main(rt: HostRuntime) -> io::Result<()> {
     for (time, late) in [(0, -4), (0, -5), (-6, -5), (-7, -5), (-8, -5)] {
         held(&rt, &[0, -5], &mut [time, late], 0, -time as u64, 0)?;
     }
-    Ok(())
+    backs(&rt)
 }

@@ -51,6 +51,16 @@ impl Display for Stepped {
     }
 }
 
+// A step taken back.
+#[derive(Drop)]
+pub struct Back;
+
+impl Display for Back {
+    fn fmt<W: fmt::Write>(&self, f: &mut fmt::Formatter<W>) -> fmt::Result {
+        write!(f, "BACK")
+    }
+}
+
 // The first violated rule, if any.
 #[derive(Drop)]
 pub struct Kept(pub Option<usize>);

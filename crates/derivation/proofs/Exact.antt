@@ -27,14 +27,9 @@ use Rattle.derivation.specs.Run.{pass_bound, solve}
 use Rattle.derivation.specs.Demands.{StepTells, Demand2, Exact, Fallen, RunFacts, PlanFacts, AtZero}
 use Rattle.derivation.proofs.Checks.{accepted_iff}
 use Rattle.derivation.proofs.Reached.{Reached, high_test, test_high, floor_low}
+use Rattle.derivation.proofs.Slips.{set_back}
 use Rattle.derivation.proofs.AnyOrder.{played, is_plan, with_plan}
 use Rattle.derivation.proofs.Passes.{PassesAre, passes_are, run_through}
-
--- a time put back
-set_back : (times : List ℤ) (job : ℕ) (v : ℤ) → set (set times job v) job (time_at times job) ≡ times
-set_back [] job v = refl
-set_back (t ∷ times) zero v = refl
-set_back (t ∷ times) (suc job) v = ap (λ (l : List ℤ). t ∷ l) (set_back times job v)
 
 -- the state after the calls of all passes
 abbrev last : Book → State
@@ -42,7 +37,7 @@ last b = run_through b (initial b) (rounds (pass_bound b) (length b.rules))
 
 module _ {b : Book} (a : Accepted b) where
   reached : Reached b (last b)
-  reached = (played a (initial b) start _).reached
+  reached = (played a (initial b) start _).1
 
   bench : PassesAre b (initial b) (pass_bound b) (solve b)
   unfolding solve run

@@ -33,7 +33,7 @@ use Rattle.derivation.proofs.AnyOrder.{each_at, reached_step, allowed, played}
 
 -- the state after a list of calls
 abbrev pub run_through : Book → State → List ℕ → State
-run_through b state calls = end_state state (play b state calls)
+run_through b state calls = end_state state (play (step_call b) state calls)
 
 pub run_append : (b : Book) (state : State) (xs ys : List ℕ) →
     run_through b state (xs ++ ys) ≡ run_through b (run_through b state xs) ys
@@ -309,7 +309,7 @@ module _ {b : Book} (a : Accepted b) where
       mid = run_through b state calls
 
       reached : Reached b mid
-      reached = (played a state d calls).reached
+      reached = (played a state d calls).1
 
       w : Pass
       w = pass (floor b) (clauses_of b.rules) state.times state.tally.steps

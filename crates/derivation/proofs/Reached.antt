@@ -1,7 +1,8 @@
--- A state that hand steps reach from the initial one is a derivation's: so 21, 22 and 23 never fail there, and a call does one of four things.
+-- A state that hand steps and steps back reach from the initial one is a derivation's: so 21, 22 and 23 never fail there, and a call does
+-- one of four things.
 -- Assumes nothing.
 use mathlib.Core.Path.{◌≡◌, refl, sym, ap, subst, ◌∙◌}
-use mathlib.Core.Bool.{Bool, true, false, ◌||◌}
+use mathlib.Core.Bool.{Bool, true, false, not, ◌||◌}
 use mathlib.Core.List.{List, [], ◌∷◌, ◌++◌}
 use Prim.Native.Nat.{ℕ, zero, suc, ◌+◌, ◌*◌, ◌<◌, ◌≤◌}
 use native.Mathlib.Omega.{arith}
@@ -19,13 +20,14 @@ use Rattle.maxatom.specs.Clauses.{clauses_of}
 use Rattle.maxatom.proofs.Choose.{clash}
 use Rattle.maxatom.proofs.Integers.{up, dn, le_read, le_make, eq_make, add_parts, neg_parts, true_le, lt_false, false_lt, true_eq}
 use Rattle.maxatom.specs.Runs.{sum_by}
-use Rattle.maxatom.proofs.Lists.{each_map}
+use Rattle.maxatom.proofs.Lists.{each_map, each_join}
 use Rattle.maxatom.proofs.Clauses.{Below}
 use Rattle.maxatom.proofs.Derivations.{Derivation, same_length, under_latest, few_steps, not_far, minutes_lost, floor_under}
 use Rattle.maxatom.proofs.Rules.{smallest_least, smallest_holds, floor_parts, weighed, setting}
 use Rattle.derivation.specs.Refusals.{Reply, refused, answer, Check, reply, verdict, lent, times_checks}
-use Rattle.derivation.specs.Step.{State, rule_at, lowest, in_range, below_floor, sum_z, fits, rule_step_checks, step_checks, slip_of, step_on, Called, called_by, step_call}
-use Rattle.derivation.proofs.Checks.{neither_from, says, skips, skips_all, refused_append, times_pass}
+use Rattle.derivation.specs.Step.{State, rule_at, lowest, in_range, below_floor, sum_z, fits, rule_step_checks, state_checks, step_checks, slip_of, step_on, Called, called_by, step_call}
+use Rattle.derivation.specs.Back.{back_on, differs, unfit, slip_checks, back_checks, back_call}
+use Rattle.derivation.proofs.Checks.{Passes, neither_from, says, skips, skips_all, refused_append, times_pass}
 
 abbrev pub Reached : Book → State → Type 0
 Reached b state = Derivation (clauses_of b.rules) (floor b) b.latest state.times state.tally.steps state.tally.minutes
@@ -77,12 +79,12 @@ range_test low (l ∷ latest) [] u h = refl
 range_test low (l ∷ latest) (t ∷ times) u h =
     and_from _ _ (and_from _ _ (true_le (h 0)) (true_le (u 0))) (range_test low latest times (λ job. u (suc job)) (λ job. h (suc job)))
 
-sum_parts : (times : List ℤ) → up (sum_z times) + sum_by dn times ≡ sum_by up times + dn (sum_z times)
+pub sum_parts : (times : List ℤ) → up (sum_z times) + sum_by dn times ≡ sum_by up times + dn (sum_z times)
 unfolding sum_z sum_by
 sum_parts [] = refl
 sum_parts (t ∷ times) = omega (arith, sum_parts times, add_parts t (sum_z times))
 
-lowest_parts : (b : Book) → up (lowest b) + dn (smallest b.latest) + 2 * total b.rules ≡ up (smallest b.latest) + dn (lowest b)
+pub lowest_parts : (b : Book) → up (lowest b) + dn (smallest b.latest) + 2 * total b.rules ≡ up (smallest b.latest) + dn (lowest b)
 lowest_parts b = omega (arith, add_parts (smallest b.latest) (neg_ℤ (pos (2 * total b.rules))), neg_parts (pos (2 * total b.rules)))
 
 module _ {b : Book} (a : Accepted b) where
@@ -106,29 +108,37 @@ module _ {b : Book} (a : Accepted b) where
           lowest_parts b,
         )))
 
+    -- the minutes are what the times have lost
+    pub sums : pos state.tally.minutes ≡ sum_z b.latest -ℤ sum_z state.times
+    sums =
+        eq_make
+        (omega (
+          arith,
+          minutes_lost (setting a) d,
+          sum_parts state.times,
+          sum_parts b.latest,
+          neg_parts (sum_z state.times),
+          add_parts (sum_z b.latest) (neg_ℤ (sum_z state.times)),
+        ))
+
     fits_is : fits b.latest state.tally state.times ≡ true
     unfolding fits
     fits_is = and_from _ _ (true_eq _ _ sums) (le-leb state.tally.steps state.tally.minutes (few_steps d))
-      where
-        sums : pos state.tally.minutes ≡ sum_z b.latest -ℤ sum_z state.times
-        sums =
-            eq_make
-            (omega (
-              arith,
-              minutes_lost (setting a) d,
-              sum_parts state.times,
-              sum_parts b.latest,
-              neg_parts (sum_z state.times),
-              add_parts (sum_z b.latest) (neg_ℤ (sum_z state.times)),
-            ))
 
-    -- what a call from here does
-    pub call_is : (number : ℕ) → step_call b state number ≡ called_by (rule_step_checks b state number) (slip_of (rule_at b.rules number) state.times) state (step_on (rule_at b.rules number) state)
+    state_passes : Each Passes (state_checks b state)
+    unfolding state_checks
+    state_passes = each_join Passes (times_checks b state.times) _ (times_pass state.times a size_is) (ap not range_is, (ap not fits_is, tt))
+
+    -- what a hand step from here does
+    pub call_is : (number : ℕ) →
+        step_call b state number ≡ called_by (rule_step_checks b state number) (slip_of (rule_at b.rules number) state.times) state (step_on (rule_at b.rules number) state)
     unfolding step_call step_checks
-    call_is number =
-        call_passes (times_checks b state.times) _ _ _ _ (times_pass state.times a size_is)
-        ∙ call_skips _ _ _ _ _ (rw range_is)
-        ∙ call_skips _ _ _ _ _ (rw fits_is)
+    call_is number = call_passes (state_checks b state) _ _ _ _ state_passes
+
+    -- and a step back
+    pub back_is : (slip : Slip) → back_call b state slip ≡ called_by (slip_checks b state slip) tt state (back_on slip state)
+    unfolding back_call back_checks
+    back_is slip = call_passes (state_checks b state) _ _ _ _ state_passes
 
   module _ (state : State) (number : ℕ) where
     -- the four things that a call does
@@ -156,3 +166,25 @@ module _ {b : Book} (a : Accepted b) where
         go false false true e f g = by _ (call_skips _ _ _ _ _ e ∙ (call_skips _ _ _ _ _ f ∙ call_says _ _ _ _ _ g)) (kept (leb-false (length b.rules) number e) f g)
         go false false false e f g =
             by _ (call_skips _ _ _ _ _ e ∙ (call_skips _ _ _ _ _ f ∙ (call_skips _ _ _ _ _ g ∙ call_done _ _ _))) (steps (leb-false (length b.rules) number e) f g)
+
+  module _ (state : State) (slip : Slip) where
+    -- the four things that a step back does
+    pub data BackView : Called (Unit {0}) → Type 0 where
+      no_job : b.jobs ≤ slip.job → BackView (record { said = refused 27 0; after = state })
+      differs_lem : slip.job < b.jobs → differs b state slip ≡ true → BackView (record { said = refused 28 0; after = state })
+      unfit_lem : slip.job < b.jobs → differs b state slip ≡ false → unfit b state slip ≡ true → BackView (record { said = refused 29 0; after = state })
+      returns : slip.job < b.jobs → differs b state slip ≡ false → unfit b state slip ≡ false → BackView (record { said = answer tt; after = back_on slip state })
+
+    pub back_view : Reached b state → BackView (back_call b state slip)
+    back_view d = go (leb b.jobs slip.job) (differs b state slip) (unfit b state slip) refl refl refl
+      where
+        by : (called : Called (Unit {0})) → called_by (slip_checks b state slip) tt state (back_on slip state) ≡ called → BackView called → BackView (back_call b state slip)
+        by called e v = subst BackView (sym (back_is d slip ∙ e)) v
+
+        go : (p q r : Bool) → leb b.jobs slip.job ≡ p → differs b state slip ≡ q → unfit b state slip ≡ r → BackView (back_call b state slip)
+        go true q r e f g = by _ (call_says _ _ _ _ _ e) (no_job (leb-true b.jobs slip.job e))
+        go false true r e f g = by _ (call_skips _ _ _ _ _ e ∙ call_says _ _ _ _ _ f) (differs_lem (leb-false b.jobs slip.job e) f)
+        go false false true e f g =
+            by _ (call_skips _ _ _ _ _ e ∙ (call_skips _ _ _ _ _ f ∙ call_says _ _ _ _ _ g)) (unfit_lem (leb-false b.jobs slip.job e) f g)
+        go false false false e f g =
+            by _ (call_skips _ _ _ _ _ e ∙ (call_skips _ _ _ _ _ f ∙ (call_skips _ _ _ _ _ g ∙ call_done _ _ _))) (returns (leb-false b.jobs slip.job e) f g)

@@ -11,7 +11,8 @@ use Rattle.std.specs.List.{Contains}
 use Rattle.maxatom.specs.Book.{Each, Book}
 use Rattle.maxatom.specs.declared.Rule.{Rule}
 use Rattle.derivation.specs.Refusals.{refused, accepts, Check, check, reply, lent, rule_checks, table_checks, time_checks, size_check, latest_checks, book_checks, times_checks}
-use Rattle.derivation.specs.Step.{step_checks, step_call, called_by}
+use Rattle.derivation.specs.Step.{State, state_checks, step_checks, step_call, called_by}
+use Rattle.derivation.specs.Back.{back_checks, back_call}
 use Rattle.derivation.specs.Calls.{model_check_call, tight_call, initial_checks, initial_reply, initial_times, run_reply, run_times}
 use Rattle.derivation.specs.Demand1.{FirstHolds, Refuses, Refusing, Demand1}
 use Rattle.maxatom.proofs.Lists.{each_join}
@@ -106,8 +107,15 @@ module _ (more : List ℕ) where
       (latest_numbers numbers (4, omega arith, refl) (5, omega arith, refl) b.jobs b.latest))
       ((5, omega arith, refl), tt)
 
+-- and of a state
+state_numbers : (more : List ℕ) (b : Book) (state : State) → Each (Own (22 ∷ 23 ∷ more)) (state_checks b state)
+unfolding state_checks
+state_numbers more b state =
+    each_join (Own (22 ∷ 23 ∷ more)) (times_checks b state.times) _ (times_numbers (22 ∷ 23 ∷ more) b state.times)
+    ((6, omega arith, refl), ((7, omega arith, refl), tt))
+
 pub demand_1 : Demand1
-unfolding model_check_call tight_call initial_checks initial_reply initial_times run_reply run_times step_call called_by step_checks
+unfolding model_check_call tight_call initial_checks initial_reply initial_times run_reply run_times step_call called_by step_checks back_call back_checks
 demand_1 =
     record {
       model_check = λ b times. refuses _ _ _ (times_numbers [] b times);
@@ -120,7 +128,11 @@ demand_1 =
           );
       step = λ b state number.
           refusing _ _ _ _ _
-          (each_join _ (times_checks b state.times) _ (times_numbers (22 ∷ 23 ∷ 24 ∷ 25 ∷ 26 ∷ []) b state.times)
-          ((6, omega arith, refl), ((7, omega arith, refl), ((8, omega arith, refl), ((9, omega arith, refl), ((10, omega arith, refl), tt))))));
+          (each_join _ (state_checks b state) _ (state_numbers (24 ∷ 25 ∷ 26 ∷ []) b state)
+          ((8, omega arith, refl), ((9, omega arith, refl), ((10, omega arith, refl), tt))));
+      back = λ b state slip.
+          refusing _ _ _ _ _
+          (each_join _ (state_checks b state) _ (state_numbers (27 ∷ 28 ∷ 29 ∷ []) b state)
+          ((8, omega arith, refl), ((9, omega arith, refl), ((10, omega arith, refl), tt))));
       solve = λ b buffer. refusing _ _ _ _ _ (times_numbers [] b buffer);
     }

@@ -7,10 +7,10 @@ use Rattle.maxatom.specs.Book.{total, smallest}
 use Rattle.maxatom.specs.Clauses.{greatest, kept}
 use Rattle.maxatom.specs.Runs.{pass, passes, sum_by, run}
 use Rattle.derivation.specs.Refusals.{accepts, reply, lent, job_outside, offset_outside, rule_checks, table_checks, latest_outside, time_checks, latest_checks, book_checks, times_checks}
-use Rattle.derivation.specs.Step.{in_range, below_floor, sum_z, fits, step_checks, step_on, called_by, step_call}
+use Rattle.derivation.specs.Step.{in_range, below_floor, sum_z, fits, state_checks, step_checks, step_on, called_by, step_call}
 use Rattle.derivation.specs.Run.{solve}
 use Rattle.derivation.specs.Examples.{stars, same_times, same_slip, says_slip, same_end, is_fall, class_number, holds, all_hold, right}
 
 pub stars_right : right stars ≡ true
-unfolding max_z left_side satisfied eq_z tight minutes_off xor tautology contradiction difference class_of total smallest accepts reply lent job_outside offset_outside rule_checks table_checks latest_outside time_checks latest_checks book_checks times_checks in_range below_floor sum_z fits step_checks step_on called_by step_call greatest kept pass passes sum_by run solve same_times same_slip says_slip same_end is_fall class_number holds all_hold right
+unfolding max_z left_side satisfied eq_z tight minutes_off xor tautology contradiction difference class_of total smallest accepts reply lent job_outside offset_outside rule_checks table_checks latest_outside time_checks latest_checks book_checks times_checks in_range below_floor sum_z fits state_checks step_checks step_on called_by step_call greatest kept pass passes sum_by run solve same_times same_slip says_slip same_end is_fall class_number holds all_hold right
 stars_right = refl

@@ -2,8 +2,10 @@
 use Rattle.std.specs.Prelude.{◌≡◌, ◌↔◌, true, false, List, [], ◌∷◌, ◌++◌, ℕ, length, ℤ}
 use Rattle.std.specs.List.{Contains}
 use Rattle.maxatom.specs.Book.{Each, Book}
+use Rattle.maxatom.specs.declared.Slip.{Slip}
 use Rattle.derivation.specs.Refusals.{Reply, refused, accepts, Check, check, times_checks, rule_check}
 use Rattle.derivation.specs.Step.{State, step_checks, step_call}
+use Rattle.derivation.specs.Back.{back_checks, back_call}
 use Rattle.derivation.specs.Calls.{model_check_call, tight_call, initial_checks, initial_reply, initial_times, run_reply, run_times}
 
 -- "its condition is the first to hold": a condition with this number and place holds, and none that stands before it in the list
@@ -40,6 +42,10 @@ pub record Demand1 : Type 0 where
   pub step : (b : Book) (state : State) (number : ℕ) →
       Refusing (4 ∷ 5 ∷ 6 ∷ 7 ∷ 8 ∷ 21 ∷ 22 ∷ 23 ∷ 24 ∷ 25 ∷ 26 ∷ []) (step_checks b state number)
       (step_call b state number).said state (step_call b state number).after
+  -- step back: board and tally
+  pub back : (b : Book) (state : State) (slip : Slip) →
+      Refusing (4 ∷ 5 ∷ 6 ∷ 7 ∷ 8 ∷ 21 ∷ 22 ∷ 23 ∷ 27 ∷ 28 ∷ 29 ∷ []) (back_checks b state slip)
+      (back_call b state slip).said state (back_call b state slip).after
   -- bench run
   pub solve : (b : Book) (buffer : List ℤ) →
       Refusing (4 ∷ 5 ∷ 6 ∷ 7 ∷ 8 ∷ 21 ∷ []) (times_checks b buffer) (run_reply b buffer) buffer (run_times b buffer)

@@ -1,5 +1,6 @@
 -- Demands 2 and 3, each as one statement. Their proofs: proofs/Exact.antt and proofs/AnyOrder.antt.
-use Rattle.std.specs.Prelude.{◌≡◌, ◌↔◌, ◌⊎◌, true, false, List, ◌∷◌, ◌++◌, ℕ, ◌+◌, ◌*◌, ◌<◌, ◌≤◌, length, set, ℤ, ◌≤ℤ◌, ◌<ℤ◌}
+use Rattle.std.specs.Prelude.{◌≡◌, ◌↔◌, true, false, List, [], ◌∷◌, ◌++◌, ℕ, ◌+◌, ◌*◌, ◌<◌, ◌≤◌, length, set, ℤ, ◌≤ℤ◌, ◌<ℤ◌}
+use Rattle.std.specs.List.{Contains}
 use Rattle.maxatom.specs.Rule.{time_at, left_side, satisfied}
 use Rattle.maxatom.specs.Book.{Book, zeros, Each, AllSatisfied, Satisfiable, Plan, Under, total, minus, floor}
 use Rattle.maxatom.specs.declared.Rule.{Rule}
@@ -11,10 +12,10 @@ use Rattle.derivation.specs.Play.{Entry, play, end_state, stepped, count_steps, 
 use Rattle.derivation.specs.Run.{step_bound, pass_bound, solve}
 
 -- Demand 3. "which calls stepped": it named a rule of the book, broken just then, while no job stood below the floor
-pub record Due (b : Book) (e : Entry) : Type 0 where
-  pub of_book : e.asked < length b.rules
-  pub violated : satisfied (rule_at b.rules e.asked) e.before.times ≡ false
-  pub above : below_floor (floor b) e.before.times ≡ false
+pub record Due (b : Book) (number : ℕ) (before : State) : Type 0 where
+  pub of_book : number < length b.rules
+  pub violated : satisfied (rule_at b.rules number) before.times ≡ false
+  pub above : below_floor (floor b) before.times ≡ false
 
 -- "lowered the rule's third job, and no other, to what the rule allows"
 pub record Lowered (r : Rule) (before after : List ℤ) : Type 0 where
@@ -35,10 +36,14 @@ StepTells =
     (b : Book) (state : State) (number : ℕ) (slip : Slip) → (step_call b state number).said ≡ answer slip →
     Told (rule_at b.rules number) state.times (step_call b state number).after.times slip
 
--- "the other calls changed nothing", and were refused with 24, 25 or 26
-pub record Unchanged (e : Entry) : Type 0 where
+-- "the other calls changed nothing", and were refused with one of these numbers
+pub record Unchanged {Q A : Type 0} (numbers : List ℕ) (e : Entry Q A) : Type 0 where
   pub same : e.after ≡ e.before
-  pub number : (e.said ≡ refused 24 0) ⊎ ((e.said ≡ refused 25 0) ⊎ (e.said ≡ refused 26 0))
+  pub number : (n : ℕ) × Contains numbers n × (e.said ≡ refused n 0)
+
+-- those of a hand step
+abbrev pub step_numbers : List ℕ
+step_numbers = 24 ∷ 25 ∷ 26 ∷ []
 
 -- "If a plan exists"
 pub record WithPlan (b : Book) (plan times : List ℤ) (steps : ℕ) : Type 0 where
@@ -55,16 +60,16 @@ pub record WithNone (b : Book) (times : List ℤ) (steps : ℕ) : Type 0 where
   pub at_bound : steps ≡ step_bound b + 1 → below_floor (floor b) times ≡ true
 
 -- the log of a list of hand steps from a fresh board with a zero tally, and the state after it
-abbrev pub log_of : Book → List ℕ → List Entry
-log_of b calls = play b (initial b) calls
+abbrev pub log_of : Book → List ℕ → List (Entry ℕ Slip)
+log_of b calls = play (step_call b) (initial b) calls
 
 abbrev pub finally : Book → List ℕ → State
 finally b calls = end_state (initial b) (log_of b calls)
 
 pub record AnyOrder (b : Book) (calls : List ℕ) : Type 0 where
-  pub exactly : Each (λ e. (stepped e ≡ true) ↔ Due b e) (log_of b calls)
+  pub exactly : Each (λ e. (stepped e ≡ true) ↔ Due b e.asked e.before) (log_of b calls)
   pub lowered : Each (λ e. stepped e ≡ true → Lowered (rule_at b.rules e.asked) e.before.times e.after.times) (log_of b calls)
-  pub others : Each (λ e. stepped e ≡ false → Unchanged e) (log_of b calls)
+  pub others : Each (λ e. stepped e ≡ false → Unchanged step_numbers e) (log_of b calls)
   pub steps : (finally b calls).tally.steps ≡ count_steps (log_of b calls)
   pub minutes : (finally b calls).tally.minutes ≡ sum_minutes b.rules (log_of b calls)
   pub with_plan : (plan : List ℤ) → Plan b plan → WithPlan b plan (finally b calls).times (count_steps (log_of b calls))

@@ -1,7 +1,7 @@
 -- The number of each refusal, as the two lists of refusals have it.
 use Rattle.std.specs.Prelude.{ℕ}
 use Rattle.derivation.specs.declared.Fault.{Fault}
-use Rattle.derivation.specs.declared.Fault.TheVariants.{FileEnds, UnknownMark, BookRecord, JobCount, RuleCount, JobNumber, Offset, LatestTime, SecondLatest, Length, IllegalBoard, TallyDiffers, NoSuchRule, ShowsNone, Satisfied}
+use Rattle.derivation.specs.declared.Fault.TheVariants.{FileEnds, UnknownMark, BookRecord, JobCount, RuleCount, JobNumber, Offset, LatestTime, SecondLatest, Length, IllegalBoard, TallyDiffers, NoSuchRule, ShowsNone, Satisfied, NoSuchJob, SlipDiffers, TallyShort}
 use Rattle.derivation.specs.declared.Refusal.{Refusal}
 
 abbrev pub number_of : Fault → ℕ
@@ -20,6 +20,9 @@ number_of TallyDiffers = 23
 number_of NoSuchRule = 24
 number_of ShowsNone = 25
 number_of Satisfied = 26
+number_of NoSuchJob = 27
+number_of SlipDiffers = 28
+number_of TallyShort = 29
 
 -- a refusal whose place is 0
 abbrev pub refusal_for : Fault → Refusal

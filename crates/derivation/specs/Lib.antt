@@ -1,5 +1,6 @@
 pub mod Refusals
 pub mod Step
+pub mod Back
 pub mod Play
 pub mod Run
 pub mod Calls
@@ -9,3 +10,4 @@ pub mod Demands
 pub mod Examples
 pub mod Demand1
 pub mod Inner
+pub mod TakingBack

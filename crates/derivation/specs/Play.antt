@@ -1,49 +1,50 @@
--- A list of hand steps, each from the state that the one before left.
+-- A list of calls, each from the state that the one before left: of one kind of call, which says what is done with what is asked for.
 use Rattle.std.specs.Prelude.{Bool, cond, List, [], ◌∷◌, ◌++◌, ℕ, zero, suc, ◌+◌}
 use Rattle.maxatom.specs.Rule.{time_at, minutes_off}
-use Rattle.maxatom.specs.Book.{Book}
 use Rattle.maxatom.specs.declared.Rule.{Rule}
-use Rattle.maxatom.specs.declared.Slip.{Slip}
 use Rattle.derivation.specs.Refusals.{Reply, accepts}
-use Rattle.derivation.specs.Step.{State, rule_at, step_call}
+use Rattle.derivation.specs.Step.{State, rule_at, Called}
 
--- a call of the list: the rule number asked for, the reply, and the states around it
-pub record Entry : Type 0 where
-  pub asked : ℕ
-  pub said : Reply Slip
+-- a call of the list: what was asked for (a hand step's rule number), the reply, and the states around it
+pub record Entry (Q A : Type 0) : Type 0 where
+  pub asked : Q
+  pub said : Reply A
   pub before : State
   pub after : State
 
-unfoldable pub play : Book → State → List ℕ → List Entry
-play b state [] = []
-play b state (number ∷ calls) =
-    let called = step_call b state number in
-    record { asked = number; said = called.said; before = state; after = called.after } ∷ play b called.after calls
+unfoldable pub play : {Q A : Type 0} → (State → Q → Called A) → State → List Q → List (Entry Q A)
+play call state [] = []
+play call state (asked ∷ calls) =
+    let called = call state asked in
+    record { asked = asked; said = called.said; before = state; after = called.after } ∷ play call called.after calls
 
 -- the state after the list
-unfoldable pub end_state : State → List Entry → State
+unfoldable pub end_state : {Q A : Type 0} → State → List (Entry Q A) → State
 end_state state [] = state
 end_state state (e ∷ log) = end_state e.after log
 
 -- a call steps when it isn't refused
-unfoldable pub stepped : Entry → Bool
+unfoldable pub stepped : {Q A : Type 0} → Entry Q A → Bool
 stepped e = accepts e.said
 
+-- the sum of a number of each call
+unfoldable pub sum_log : {Q A : Type 0} → (Entry Q A → ℕ) → List (Entry Q A) → ℕ
+sum_log f [] = 0
+sum_log f (e ∷ log) = f e + sum_log f log
+
 -- how many of the calls stepped
-unfoldable pub count_steps : List Entry → ℕ
-count_steps [] = 0
-count_steps (e ∷ log) = cond (stepped e) 1 0 + count_steps log
+abbrev pub count_steps : {Q A : Type 0} → List (Entry Q A) → ℕ
+count_steps log = sum_log (λ e. cond (stepped e) 1 0) log
 
 -- the minutes that a step took off its rule's third job
-unfoldable pub took_off : List Rule → Entry → ℕ
+unfoldable pub took_off : {A : Type 0} → List Rule → Entry ℕ A → ℕ
 took_off rules e =
     let job = (rule_at rules e.asked).z in
     minutes_off (time_at e.before.times job) (time_at e.after.times job)
 
 -- and those of all the steps
-unfoldable pub sum_minutes : List Rule → List Entry → ℕ
-sum_minutes rules [] = 0
-sum_minutes rules (e ∷ log) = cond (stepped e) (took_off rules e) 0 + sum_minutes rules log
+abbrev pub sum_minutes : {A : Type 0} → List Rule → List (Entry ℕ A) → ℕ
+sum_minutes rules log = sum_log (λ e. cond (stepped e) (took_off rules e) 0) log
 
 -- `count` numbers, from `at` on
 unfoldable pub up_from : ℕ → ℕ → List ℕ

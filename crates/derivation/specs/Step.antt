@@ -55,16 +55,15 @@ rule_step_checks b state number =
     ∷ check (satisfied (rule_at b.rules number) state.times) 26 0
     ∷ []
 
--- for the board and the tally, and then the rule
-abbrev pub held_checks : Book → State → ℕ → List Check
-held_checks b state number =
-    check (not (in_range (lowest b) b.latest state.times)) 22 0
-    ∷ check (not (fits b.latest state.tally state.times)) 23 0
-    ∷ rule_step_checks b state number
+-- for the table and the latest times, then the board, then the tally
+unfoldable pub state_checks : Book → State → List Check
+state_checks b state =
+    times_checks b state.times
+    ++ (check (not (in_range (lowest b) b.latest state.times)) 22 0 ∷ check (not (fits b.latest state.tally state.times)) 23 0 ∷ [])
 
--- for the table and the latest times first
+-- a hand step
 unfoldable pub step_checks : Book → State → ℕ → List Check
-step_checks b state number = times_checks b state.times ++ held_checks b state number
+step_checks b state number = state_checks b state ++ rule_step_checks b state number
 
 -- what a step on a rule takes off: the third job, its time before, and the left side, which is its time after
 abbrev pub slip_of : Rule → List ℤ → Slip

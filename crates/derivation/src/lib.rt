@@ -46,6 +46,12 @@ pub enum Fault {
     ShowsNone,
     // The rule is kept (26).
     Satisfied,
+    // The slip's job is not in the book (27).
+    NoSuchJob,
+    // The job is not at the slip's time after, or the time before is not above that or passes the job's latest (28).
+    SlipDiffers,
+    // The tally has no step, or would no longer fit (29).
+    TallyShort,
 }
 
 impl From<Fault> for u8 {
@@ -68,6 +74,9 @@ impl From<Fault> for u8 {
             Fault::NoSuchRule => 24,
             Fault::ShowsNone => 25,
             Fault::Satisfied => 26,
+            Fault::NoSuchJob => 27,
+            Fault::SlipDiffers => 28,
+            Fault::TallyShort => 29,
         }
     }
 }

@@ -26,7 +26,7 @@ reply_words say (answer a) = say a
 abbrev pub refusal_words : Refusal → Words
 refusal_words refusal = words 2 (number_of refusal.fault) refusal.place
 
--- it was done: fresh board, plan writer
+-- it was done: fresh board, step back, plan writer
 abbrev pub done_words : Unit {0} → Words
 done_words u = words 0 0 0
 

@@ -9,6 +9,7 @@ ghost use Rattle.maxatom.specs.Class.{class_of};
 ghost use Rattle.maxatom.specs.declared.Rule.{Rule};
 ghost use Rattle.derivation.specs.Refusals.{verdict};
 ghost use Rattle.derivation.specs.Step.{step_call};
+ghost use Rattle.derivation.specs.Back.{back_call};
 ghost use Rattle.derivation.specs.Calls.{model_check_call, tight_call, initial_reply, initial_times, run_reply, run_times};
 ghost use Rattle.derivation.specs.Replies.{model_check, solved_answer, state_of};
 ghost use Rattle.derivation.specs.Examples.{class_number};
@@ -60,7 +61,7 @@ impl Words {
     }
 }
 
-// Fresh board, plan writer: it was done.
+// Fresh board, step back, plan writer: it was done.
 impl From<()> for Words {
     ghost from_gives = { λ done w. w ≡ done_words tt };
 
@@ -238,6 +239,24 @@ pub extern "C" fn marlinfray_step(
         × (tally.new ≡ (step_call (book n latest.now rules.now) (state_of times.old tally.old) number).after.tally) }
 {
     *reply = planner::step(n, rules, latest, times, tally, number).into();
+}
+
+// Step back. The slip may be any three numbers.
+#[unsafe(no_mangle)]
+pub extern "C" fn marlinfray_step_back(
+    n: usize,
+    rules: &[Rule],
+    latest: &[i32],
+    times: &mut [i32],
+    tally: &mut Tally,
+    slip: &Slip,
+    reply: &mut Words,
+)
+    ensures { (reply.new ≡ reply_words done_words (back_call (book n latest.now rules.now) (state_of times.old tally.old) slip.now).said)
+        × (times.new ≡ (back_call (book n latest.now rules.now) (state_of times.old tally.old) slip.now).after.times)
+        × (tally.new ≡ (back_call (book n latest.now rules.now) (state_of times.old tally.old) slip.now).after.tally) }
+{
+    *reply = planner::step_back(n, rules, latest, times, tally, *slip).into();
 }
 
 // Bench run.

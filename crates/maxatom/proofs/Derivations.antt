@@ -1,12 +1,12 @@
--- Max-derivations above a floor, from given latest times: Lemmas 6 and 7 of the paper, and how long a derivation can be.
--- Over clauses with any number of arms and any latest times. Assumes nothing.
+-- Max-derivations above a floor, from given latest times, with steps taken back: Lemmas 6 and 7 of the paper, and how long a derivation
+-- can be. Over clauses with any number of arms and any latest times. Assumes nothing.
 use mathlib.Core.Path.{◌≡◌, refl, sym, ap, subst, ◌∙◌}
 use mathlib.Core.Logic.{◌↔◌}
 use mathlib.Core.Bool.{Bool, true, false}
 use mathlib.Core.List.{List, [], ◌∷◌}
-use Prim.Native.Nat.{ℕ, suc, ◌+◌, ◌≤◌, ◌<◌}
+use Prim.Native.Nat.{ℕ, zero, suc, ◌+◌, ◌≤◌, ◌<◌}
 use native.Mathlib.Omega.{arith}
-use lib.ListN.{length, length-set}
+use lib.ListN.{length, set, length-set}
 use lib.IntN.{ℤ, pos, ◌+ℤ◌}
 use lib.Signed.{◌≤ℤ◌, ◌<ℤ◌, le_z}
 use Rattle.maxatom.specs.Rule.{time_at, minutes_off}
@@ -28,11 +28,20 @@ pub record Due (cs : List Clause) (floor : ℤ) (times : List ℤ) (c : Clause) 
 abbrev pub taken : List ℤ → Clause → ℕ
 taken times c = minutes_off (time_at times c.target) (left_of (time_at times) c)
 
--- times reached from `latest` by steps; the numbers are those of the steps and of the minutes that they took off
+-- a time may be raised to v
+pub record Raised (latest times : List ℤ) (job : ℕ) (v : ℤ) : Type 0 where
+  pub inside : job < length latest
+  pub later : time_at times job <ℤ v
+  pub not_late : v ≤ℤ time_at latest job
+
+-- times reached from `latest` by steps, and by raising a time again, whoever says to what: no later than its latest time, and while the
+-- steps are no more than the minutes. The numbers are those of the steps, less those taken back, and of the minutes that they took off.
 pub data Derivation (cs : List Clause) (floor : ℤ) (latest : List ℤ) : List ℤ → ℕ → ℕ → Type 0 where
   start : Derivation cs floor latest latest 0 0
   step : {times : List ℤ} {steps minutes : ℕ} (c : Clause) → Derivation cs floor latest times steps minutes → Due cs floor times c →
       Derivation cs floor latest (stepped times c) (steps + 1) (minutes + taken times c)
+  raise : {times : List ℤ} {steps minutes : ℕ} (job : ℕ) (v : ℤ) → Derivation cs floor latest times (steps + 1) (minutes + minutes_off v (time_at times job)) →
+      Raised latest times job v → steps ≤ minutes → Derivation cs floor latest (set times job v) steps minutes
 
 -- Lemma 6: an assignment is a model exactly when no step can be made from it
 pub lemma_6 : (cs : List Clause) (t : Assignment) → KeepsAll t cs ↔ ((c : Clause) → In c cs → left_of t c <ℤ t c.target → ⊥)
@@ -50,6 +59,7 @@ module _ {cs : List Clause} {floor : ℤ} {latest : List ℤ} where
   pub same_length : {b : List ℤ} {s m : ℕ} → Derivation cs floor latest b s m → length b ≡ length latest
   same_length start = refl
   same_length (step {times = b} c d due) = length-set b c.target (left_of (time_at b) c) ∙ same_length d
+  same_length (raise {times = b} job v d r few) = length-set b job v ∙ same_length d
 
   -- Lemma 7: a derivation passes no model
   pub lemma_7 : (t : Assignment) → KeepsAll t cs → Below t (time_at latest) → {b : List ℤ} {s m : ℕ} → Derivation cs floor latest b s m → Below t (time_at b)
@@ -58,6 +68,9 @@ module _ {cs : List Clause} {floor : ℤ} {latest : List ℤ} where
       let ih : Below t (time_at b) = λ i. lemma_7 t k u d i in
       set_time (λ (v : ℤ). t job ≤ℤ v) b c.target job (left_of (time_at b) c) (ih job)
       (λ e. subst (λ (i : ℕ). t i ≤ℤ left_of (time_at b) c) e (≤ℤ-trans (each_in (Keeps t) cs k due.among) (left_mono c t (time_at b) ih)))
+  lemma_7 t k u (raise {times = b} j v d r few) job =
+      set_time (λ (w : ℤ). t job ≤ℤ w) b j job v (lemma_7 t k u d job)
+      (λ e. subst (λ (i : ℕ). t i ≤ℤ v) e (le_make (omega (arith, le_read (lemma_7 t k u d j), lt_read r.later))))
 
   pub under_latest : {b : List ℤ} {s m : ℕ} → Derivation cs floor latest b s m → Below (time_at b) (time_at latest)
   under_latest start job = le_make (omega arith)
@@ -65,12 +78,15 @@ module _ {cs : List Clause} {floor : ℤ} {latest : List ℤ} where
       let ih : Below (time_at b) (time_at latest) = λ i. under_latest d i in
       set_time (λ (v : ℤ). v ≤ℤ time_at latest job) b c.target job (left_of (time_at b) c) (ih job)
       (λ e. le_make (omega (arith, lt_read due.violated, le_read (ih c.target), ap (λ (i : ℕ). up (time_at latest i)) e, ap (λ (i : ℕ). dn (time_at latest i)) e)))
+  under_latest (raise {times = b} j v d r few) job =
+      set_time (λ (w : ℤ). w ≤ℤ time_at latest job) b j job v (under_latest d job) (λ e. subst (λ (i : ℕ). v ≤ℤ time_at latest i) e r.not_late)
 
   -- each step takes off a minute or more
   pub few_steps : {b : List ℤ} {s m : ℕ} → Derivation cs floor latest b s m → s ≤ m
   few_steps start = omega arith
   few_steps (step {times = b} c d due) =
       omega (arith, few_steps d, lt_read due.violated, off_most (time_at b c.target) (left_of (time_at b) c))
+  few_steps (raise job v d r few) = few
 
   -- no time lies further below the floor than one offset
   pub not_far : {total : ℕ} → Weighed cs total → ((job : ℕ) → floor ≤ℤ time_at latest job) → {b : List ℤ} {s m : ℕ} → Derivation cs floor latest b s m →
@@ -93,6 +109,10 @@ module _ {cs : List Clause} {floor : ℤ} {latest : List ℤ} where
             le_read (due.high a.job),
             first_total w due.among,
           ))
+  not_far {total = total} w h (raise {times = b} j v d r few) job =
+      set_time (λ (u : ℤ). floor ≤ℤ (u +ℤ pos total)) b j job v (not_far w h d job)
+      (λ e. le_make
+      (omega (arith, le_read (not_far w h d j), lt_read r.later, add_parts (time_at b j) (pos total), add_parts v (pos total))))
 
 -- what a derivation starts from: each arm is weighed, each target is a job, and the floor is the total below every latest time
 pub record Setting (cs : List Clause) (floor : ℤ) (latest : List ℤ) : Type 0 where
@@ -100,6 +120,23 @@ pub record Setting (cs : List Clause) (floor : ℤ) (latest : List ℤ) : Type 0
   pub weighed : Weighed cs total
   pub targets : Each (λ c. c.target < length latest) cs
   pub deep : (job : ℕ) → (floor +ℤ pos total) ≤ℤ time_at latest job
+
+-- lists of times, of which none is later than the other's: the minutes between them, in all and of one job
+sums_below : (latest b : List ℤ) → length b ≡ length latest → Below (time_at b) (time_at latest) → sum_by dn latest + sum_by up b ≤ sum_by up latest + sum_by dn b
+unfolding sum_by
+sums_below [] [] e u = omega arith
+sums_below [] (t ∷ b) e u = absurd (omega arith)
+sums_below (l ∷ latest) [] e u = absurd (omega arith)
+sums_below (l ∷ latest) (t ∷ b) e u = omega (arith, sums_below latest b (omega arith) (λ job. u (suc job)), le_read (u 0))
+
+pub one_below : (latest b : List ℤ) (job : ℕ) → length b ≡ length latest → Below (time_at b) (time_at latest) →
+    up (time_at latest job) + dn (time_at b job) + (sum_by dn latest + sum_by up b) ≤ sum_by up latest + sum_by dn b + (dn (time_at latest job) + up (time_at b job))
+unfolding sum_by
+one_below [] [] job e u = omega arith
+one_below [] (t ∷ b) job e u = absurd (omega arith)
+one_below (l ∷ latest) [] job e u = absurd (omega arith)
+one_below (l ∷ latest) (t ∷ b) zero e u = omega (arith, sums_below latest b (omega arith) (λ job. u (suc job)))
+one_below (l ∷ latest) (t ∷ b) (suc job) e u = omega (arith, one_below latest b job (omega arith) (λ i. u (suc i)), le_read (u 0))
 
 high_room : (floor : ℤ) (latest b : List ℤ) → length b ≡ length latest → ((job : ℕ) → floor ≤ℤ time_at b job) →
     sum_by up latest + sum_by dn b ≤ sum_by dn latest + sum_by up b + room floor latest
@@ -128,6 +165,15 @@ module _ {cs : List Clause} {floor : ℤ} {latest : List ℤ} (set : Setting cs 
         sum_set dn b z v h,
         off_parts (time_at b z) v (le_make (omega (arith, lt_read due.violated))),
       )
+  minutes_lost (raise {times = b} job v d r few) =
+      let h : job < length b = subst (λ (n : ℕ). job < n) (sym (same_length d)) r.inside in
+      omega (
+        arith,
+        minutes_lost d,
+        sum_set up b job v h,
+        sum_set dn b job v h,
+        off_parts v (time_at b job) (le_make (omega (arith, lt_read r.later))),
+      )
 
   few_minutes : {b : List ℤ} {s m : ℕ} → Derivation cs floor latest b s m → ((job : ℕ) → floor ≤ℤ time_at b job) → m ≤ room floor latest
   few_minutes {b = b} d h = omega (arith, minutes_lost d, high_room floor latest b (same_length d) h)
@@ -136,6 +182,7 @@ module _ {cs : List Clause} {floor : ℤ} {latest : List ℤ} (set : Setting cs 
   pub longest : {b : List ℤ} {s m : ℕ} → Derivation cs floor latest b s m → s ≤ room floor latest + 1
   longest start = omega arith
   longest (step c d due) = omega (arith, few_steps d, few_minutes d due.high)
+  longest (raise job v d r few) = omega (arith, longest d)
 
   -- above the floor, no longer than the room
   pub longest_high : {b : List ℤ} {s m : ℕ} → Derivation cs floor latest b s m → ((job : ℕ) → floor ≤ℤ time_at b job) → s ≤ room floor latest

@@ -1,46 +1,38 @@
--- The calls on a table after its checks: kept test, tight test, hand step. Assumes nothing.
+-- The calls on a table after its checks: kept test, tight test, bench run. Assumes nothing.
 use mathlib.Core.Path.{◌≡◌, refl, sym, ap, ◌∙◌}
 use mathlib.Core.Bool.{Bool, true, false, cond, not}
 use mathlib.Core.List.{List, [], ◌∷◌, ◌++◌, append-nil}
-use Prim.Native.Nat.{ℕ, ◌+◌, ◌*◌, ◌<◌, ◌≤◌}
+use Prim.Native.Nat.{ℕ, ◌+◌, ◌<◌, ◌≤◌}
 use native.Mathlib.Omega.{arith}
 use lib.ListN.{length}
-use lib.IntN.{ℤ, pos, ◌-ℤ◌}
+use lib.IntN.{ℤ}
 use borrow.Author.Tests.{le-leb, lt-leb}
 use Rattle.std.specs.Prelude.{Option, Some, None, Result, Ok, Err, MatchOption}
 use Rattle.std.specs.Option.{ok_or}
-use Rattle.std.proofs.Common.{Bor, to_z, of_z}
-use mir.Facts.{to_z-of_z}
-use mir.Syntax.{w32}
-use mir.Val.{SFits}
+use Rattle.std.proofs.Common.{Bor}
 use Rattle.derivation.specs.declared.Fault.{Fault}
 use Rattle.std.specs.List.{All, HoldsAt, position, position_from}
 use Rattle.std.proofs.lemmas.List.{get_or_default}
 use Rattle.std.proofs.lemmas.Iterator.Adapters.{position_from-zero}
 use Rattle.maxatom.specs.Rule.{satisfied, tight}
-use Rattle.maxatom.specs.Book.{Book, book, total, smallest, floor}
-use Rattle.maxatom.specs.Accepted.{InTime}
+use Rattle.maxatom.specs.Book.{Book, book, total}
 use Rattle.maxatom.specs.Clauses.{InJobs, clause_of}
 use Rattle.maxatom.specs.declared.Rule.{Rule}
-use Rattle.maxatom.specs.declared.Slip.{Slip}
 use Rattle.derivation.specs.Faults.{number_of}
-use Rattle.derivation.specs.Refusals.{Reply, refused, answer, Check, reply, check, rule_check, times_checks, lent}
-use Rattle.table.proofs.Latest.{floor_is}
+use Rattle.derivation.specs.Refusals.{refused, answer, Check, reply, rule_check, times_checks}
 use Rattle.solver.proofs.Laws.{in_book, in_jobs}
-use Rattle.solver.proofs.Steps.{total_bound, smallest_in, Legal, legal, tally_room, left_fits, off_bound}
-use Rattle.derivation.specs.Step.{State, no_rule, rule_at, lowest, in_range, below_floor, fits, rule_step_checks, held_checks, step_checks, slip_of, step_on, Called, called_by, step_call}
+use Rattle.solver.proofs.Steps.{total_bound}
+use Rattle.derivation.specs.Step.{no_rule, rule_at}
 use Rattle.derivation.specs.Calls.{violates, first_violated, model_check_call, tight_call}
 use Rattle.derivation.specs.Run.{solve}
 use Rattle.derivation.specs.Replies.{model_check, SolvedCall}
 use Rattle.derivation.specs.Inner.{SolvedAs}
 use Rattle.derivation.specs.declared.Solved.{Solved}
-use Rattle.planner.specs.Checks.{sum_reply, checks_reply, then_reply, then_called}
-use Rattle.planner.specs.Steps.{StepRoom}
+use Rattle.planner.specs.Checks.{sum_reply, checks_reply, then_reply}
 use Rattle.derivation.proofs.RunCalls.{call_refused as run_refused, call_answered as run_answered}
 use Rattle.derivation.specs.declared.Refusal.{Refusal}
 use Rattle.derivation.proofs.Checks.{says, accepting, refused_same, answered_same, refused_append, answered_append}
-use Rattle.planner.proofs.Checking.{answers, sound, same_size}
-use Rattle.derivation.proofs.Reached.{call_says, call_skips, call_done}
+use Rattle.planner.proofs.Checking.{answers, sound}
 
 -- the rule of a number, where a look-up finds it
 pub taken : (rules : List Rule) {number : ℕ} (o : Option (Bor Rule)) {r : Bor Rule} (fault : Fault) →
@@ -129,88 +121,3 @@ module _ (b : Book) (times : List ℤ) where
       pub tight_answered : number < length b.rules → answer (tight (rule_at b.rules number) times) ≡ tight_call b times number
       tight_answered h =
           sym (accepting (rule_check (length b.rules) number ∷ []) (tight (rule_at b.rules number) times) (lt-leb (length b.rules) number h, tt)) ∙ tight_call_lem number (Ok k) e
-
--- the smallest latest time, as the code has it
-pub least_in : (b : Book) (times : List ℤ) {k : ℕ} → sum_reply (Ok k) ≡ checks_reply b times → {least : ℤ} → SFits w32 least → least ≡ smallest b.latest →
-    InTime (to_z w32 (of_z w32 least))
-least_in b times e f first = rw (to_z-of_z f, first) (smallest_in (sound b times e).accepted)
-
--- the tests at the lowest legal time and at the floor, as the code has the two
-module _ (b : Book) (times : List ℤ) {k : ℕ} (e : sum_reply (Ok k) ≡ checks_reply b times) {least low : ℤ}
-    (fits_least : SFits w32 least) (first : least ≡ smallest b.latest) (fits_low : SFits w32 low) {v : Bool} where
-  pub at_lowest : low ≡ to_z w32 (of_z w32 least) -ℤ pos (2 * k) → v ≡ in_range (to_z w32 (of_z w32 low)) b.latest times → in_range (lowest b) b.latest times ≡ v
-  at_lowest is h =
-      sym (rw (floor_is b.latest {m = 2 * total b.rules} (ap (λ (n : ℕ). 2 * n) (sound b times e).sum) fits_least first fits_low is) at h)
-
-  pub at_floor : low ≡ to_z w32 (of_z w32 least) -ℤ pos k → v ≡ below_floor (to_z w32 (of_z w32 low)) times → below_floor (floor b) times ≡ v
-  at_floor is h = sym (rw (floor_is b.latest {m = total b.rules} (sound b times e).sum fits_least first fits_low is) at h)
-
--- the hand step, check by check
-module _ (b : Book) (state : State) (number : ℕ) where
-  abbrev next : State
-  next = step_on (rule_at b.rules number) state
-
-  abbrev took : Slip
-  took = slip_of (rule_at b.rules number) state.times
-
-  abbrev stays : ℕ → ℕ → Called Slip
-  stays fault place = record { said = refused fault place; after = state }
-
-  pub step_call_lem : (r : Result ℕ Refusal) → sum_reply r ≡ checks_reply b state.times →
-      then_called r (held_checks b state number) took state next ≡ step_call b state number
-  unfolding step_call step_checks called_by
-  step_call_lem r e = ap (λ (said : Reply Slip). record { said = said; after = lent said state next }) (same_checks b state.times took (held_checks b state number) r e)
-
-  pub step_refused : (q : Refusal) → sum_reply (Err q) ≡ checks_reply b state.times → step_call b state number ≡ stays (number_of q.fault) q.place
-  unfolding lent
-  step_refused q e = sym (step_call_lem (Err q) e)
-
-  module _ {k : ℕ} (e : sum_reply (Ok k) ≡ checks_reply b state.times) where
-    step_held : step_call b state number ≡ called_by (held_checks b state number) took state next
-    unfolding called_by
-    step_held = sym (step_call_lem (Ok k) e)
-
-    pub step_range : in_range (lowest b) b.latest state.times ≡ false → step_call b state number ≡ stays 22 0
-    step_range h = step_held ∙ call_says _ _ _ _ _ (ap not h)
-
-    module _ (range : in_range (lowest b) b.latest state.times ≡ true) where
-      -- the board is legal, so that the tally can be tested
-      pub held : Legal (lowest b) b.latest state.times
-      held = legal (lowest b) b.latest state.times (same_size b state.times e) range
-
-      pub step_tally : fits b.latest state.tally state.times ≡ false → step_call b state number ≡ stays 23 0
-      step_tally h = step_held ∙ (call_skips _ _ _ _ _ (ap not range) ∙ call_says _ _ _ _ _ (ap not h))
-
-      module _ (tally : fits b.latest state.tally state.times ≡ true) where
-        step_rule : step_call b state number ≡ called_by (rule_step_checks b state number) took state next
-        step_rule = step_held ∙ (call_skips _ _ _ _ _ (ap not range) ∙ call_skips _ _ _ _ _ (ap not tally))
-
-        pub step_no_rule : length b.rules ≤ number → step_call b state number ≡ stays 24 0
-        step_no_rule h = step_rule ∙ call_says _ _ _ _ _ (le-leb (length b.rules) number h)
-
-        module _ (of_book : number < length b.rules) where
-          pub step_low : below_floor (floor b) state.times ≡ true → step_call b state number ≡ stays 25 0
-          step_low h = step_rule ∙ (call_skips _ _ _ _ _ (lt-leb (length b.rules) number of_book) ∙ call_says _ _ _ _ _ h)
-
-          module _ (above : below_floor (floor b) state.times ≡ false) where
-            step_high : step_call b state number ≡ called_by (check (satisfied (rule_at b.rules number) state.times) 26 0 ∷ []) took state next
-            step_high = step_rule ∙ (call_skips _ _ _ _ _ (lt-leb (length b.rules) number of_book) ∙ call_skips _ _ _ _ _ above)
-
-            pub step_kept : satisfied (rule_at b.rules number) state.times ≡ true → step_call b state number ≡ stays 26 0
-            step_kept h = step_high ∙ call_says _ _ _ _ _ h
-
-            pub step_done : satisfied (rule_at b.rules number) state.times ≡ false → step_call b state number ≡ record { said = answer took; after = next }
-            step_done h = step_high ∙ (call_skips _ _ _ _ _ h ∙ call_done _ _ _)
-
-            -- the step may be taken
-            pub step_room : satisfied (rule_at b.rules number) state.times ≡ false → StepRoom (rule_at b.rules number) state.times state.tally
-            step_room h =
-                let a = (sound b state.times e).accepted in
-                let (steps, minutes) = tally_room a held state.tally (few_times b state.times e).1 tally in
-                let r = in_book number a of_book in
-                record {
-                  in_jobs = rule_in_jobs b state.times e number of_book;
-                  left_fits = left_fits a held above (rule_at b.rules number) r;
-                  steps_fit = omega arith;
-                  minutes_fit = omega (arith, off_bound a held above (rule_at b.rules number) r h);
-                }

@@ -1,10 +1,11 @@
--- The checks of a table with its times: their answer is K, and what a call says after them.
+-- The checks of a table with its times, whose answer is K, and what a call says after them; and the checks of a board and a tally lent with
+-- it, whose answer is the floor.
 use Rattle.std.specs.Prelude.{List, ℕ, ℤ, Result, Ok, Err}
-use Rattle.maxatom.specs.Book.{Book, total}
-use Rattle.derivation.specs.Refusals.{Reply, refused, Check, reply, times_checks, lent}
+use Rattle.maxatom.specs.Book.{Book, total, floor}
+use Rattle.derivation.specs.Refusals.{Reply, refused, Check, reply, times_checks}
 use Rattle.derivation.specs.Faults.{number_of}
 use Rattle.derivation.specs.Replies.{reply_of}
-use Rattle.derivation.specs.Step.{State, Called}
+use Rattle.derivation.specs.Step.{State, state_checks}
 use Rattle.derivation.specs.declared.Refusal.{Refusal}
 
 abbrev pub sum_reply : Result ℕ Refusal → Reply ℕ
@@ -19,6 +20,9 @@ abbrev pub then_reply : {A : Type 0} → Result ℕ Refusal → List Check → A
 then_reply (Err q) more a = refused (number_of q.fault) q.place
 then_reply (Ok k) more a = reply more a
 
--- and what a call under them that would answer a, and take one state to another, leaves
-abbrev pub then_called : {A : Type 0} → Result ℕ Refusal → List Check → A → State → State → Called A
-then_called r more a before after = let said = then_reply r more a in record { said = said; after = lent said before after }
+abbrev pub floor_reply : Result ℤ Refusal → Reply ℤ
+floor_reply r = reply_of (λ f. f) r
+
+-- what the checks of a board and a tally say, with the floor for an answer
+abbrev pub state_reply : Book → State → Reply ℤ
+state_reply b state = reply (state_checks b state) (floor b)

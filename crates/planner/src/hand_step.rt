@@ -1,25 +1,33 @@
 // The hand step.
 ghost use Rattle.std.specs.Prelude.{◌≡◌};
+ghost use Rattle.maxatom.specs.Rule.{minutes_off};
 ghost use Rattle.maxatom.specs.Book.{book};
 ghost use Rattle.derivation.specs.Step.{slip_of, step_on, step_call};
 ghost use Rattle.derivation.specs.Replies.{slip_reply, state_of};
 ghost use Rattle.planner.specs.Steps.{StepRoom};
 
-use crate::checks::check;
+use crate::checks::check_state;
 use derivation::{Fault, Refusal, Tally};
 use maxatom::{Rule, Slip};
-use solver::{below_floor, in_range, is_satisfied, lower, tally_fits};
-use table::{floor, smallest};
+use solver::{below_floor, is_satisfied, lower};
+
+// The minutes that a slip takes off.
+#[tactic(auto, unfolding(maxatom::specs::Rule::minutes_off))]
+pub fn minutes_off(slip: Slip) -> u64
+    ensures { result ≡ minutes_off slip.before slip.after }
+{
+    u64::from(slip.before.abs_diff(slip.after))
+}
 
 // Sets z's time to the rule's left side, brings the tally up to date, and tells what was taken off.
-#[tactic(auto, unfolding(derivation::specs::Step::step_on, maxatom::specs::Rule::minutes_off))]
+#[tactic(auto, unfolding(derivation::specs::Step::step_on))]
 fn take_step(r: Rule, times: &mut [i32], tally: &mut Tally) -> Slip
     requires { StepRoom r times.old tally.old }
     ensures told { result ≡ slip_of r times.old }
     ensures state_after { state_of times.new tally.new ≡ step_on r (state_of times.old tally.old) }
 {
     let slip = lower(r, times);
-    tally.minutes += u64::from(slip.before.abs_diff(slip.after));
+    tally.minutes += minutes_off(slip);
     tally.steps += 1;
     slip
 }
@@ -38,16 +46,7 @@ pub fn step(
     ensures times_after { times.new ≡ (step_call (book n latest.now rules.now) (state_of times.old tally.old) number).after.times }
     ensures tally_after { tally.new ≡ (step_call (book n latest.now rules.now) (state_of times.old tally.old) number).after.tally }
 {
-    let k = check(n, rules, latest, times)?;
-    let least = smallest(latest);
-    let lowest = floor(least, 2 * k);
-    let floor = floor(least, k);
-    if !in_range(latest, times, lowest) {
-        return Err(Fault::IllegalBoard.into());
-    }
-    if !tally_fits(latest, times, *tally) {
-        return Err(Fault::TallyDiffers.into());
-    }
+    let floor = check_state(n, rules, latest, times, *tally)?;
     let r = *rules.get(number).ok_or(Fault::NoSuchRule)?;
     if below_floor(times, floor) {
         return Err(Fault::ShowsNone.into());

@@ -2,12 +2,14 @@
 
 #![tactic(auto)]
 
+mod back;
 mod bench_run;
 mod checks;
 mod hand_step;
 mod kept;
 mod tight;
 
+pub use back::step_back;
 pub use bench_run::solve;
 pub use bookfile::reading::{read_book, record};
 pub use bookfile::writing::write_plan;

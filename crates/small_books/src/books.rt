@@ -3,8 +3,8 @@ ghost use Rattle.std.specs.Prelude.{◌<◌};
 
 use planner::Rule;
 
-// A job of n, and what is left of a number.
-fn job(n: usize, number: usize) -> u16
+// A job of n, by a number.
+pub fn job(n: usize, number: usize) -> u16
     requires { 0 < n }
 {
     match number % n {

@@ -1,17 +1,21 @@
 // Every book of up to two rules over two jobs, and of two rules over three, with offsets from -1 to 1 and latest times from -2 to 0: the
-// bench run, hand steps in three orders, and a search over all times from -6 up to the latest times must agree. What the bench run and each
-// hand step answer and leave must be what the reference here says.
+// bench run, hand steps in three orders, and a search over all times from -6 up to the latest times must agree. Then hand steps are mixed
+// with steps back, in three ways. What the bench run and each call answer and leave must be what the reference here says.
 
 #![tactic(auto)]
 
 ghost use Rattle.std.specs.Prelude.{◌<◌, ◌≤◌};
 
 mod books;
+mod calling;
+mod mixed;
 mod reference;
 
 use books::{are_ascending, latest_of, rules_of};
-use planner::{Fault, Refusal, Rule, Slip, Solved, Tally, first_violated, initial, solve, step};
-use reference::{State, all_satisfied, depth};
+use calling::{called, fresh};
+use mixed::{Mix, Played, play};
+use planner::{Fault, Refusal, Rule, Solved, Tally, first_violated, solve};
+use reference::{Call, all_satisfied, depth};
 use std::fmt::Display;
 use std::{fmt, io};
 
@@ -96,55 +100,6 @@ impl Order {
     }
 }
 
-// What a hand step says, and the state after it; `None` where the reference says or leaves anything else.
-fn stepped(
-    n: usize,
-    rules: &[Rule],
-    latest: [i32; 3],
-    state: State,
-    number: usize,
-) -> Option<(Result<Slip, Fault>, State)>
-    requires { n ≤ 3 }
-{
-    let mut after = state;
-    let said = step(
-        n,
-        rules,
-        &latest[..n],
-        &mut after.times[..n],
-        &mut after.tally,
-        number,
-    );
-    let expected = reference::step(rules, latest, state, number);
-    let place = match said {
-        Ok(_) => 0,
-        Err(refusal) => refusal.place,
-    };
-    let found = (said.map_err(|refusal| refusal.fault), after);
-    if found == expected && place == 0 {
-        Some(found)
-    } else {
-        None
-    }
-}
-
-// A fresh board, with a tally of zero; `None` where it is not at the latest times.
-fn fresh(n: usize, latest: [i32; 3]) -> Option<State>
-    requires { n ≤ 3 }
-{
-    let mut times = [0; 3];
-    if initial(n, &latest[..n], &mut times[..n]).is_err() || times != latest {
-        return None;
-    }
-    Some(State {
-        times,
-        tally: Tally {
-            steps: 0,
-            minutes: 0,
-        },
-    })
-}
-
 // What hand steps from a fresh board find in an order, and the tally they leave; `None` where one differs from the reference's. They end
 // with all rules satisfied, or with a step that is refused since the board shows none. A book takes at most 11 steps, and any two turns
 // name a violated rule. A rule that is satisfied or is not there is refused, and nothing changes.
@@ -157,7 +112,8 @@ fn by_hand(order: Order, n: usize, rules: &[Rule], latest: [i32; 3]) -> Option<(
         if let Ok(None) = found {
             return Some((Answer::Plan(state.times), state.tally));
         }
-        let (said, after) = stepped(n, rules, latest, state, order.named(turn, found))?;
+        let call = Call::Step(order.named(turn, found));
+        let (said, after) = called(n, rules, latest, state, call)?;
         if let Err(Fault::ShowsNone) = said {
             return Some((Answer::None, state.tally));
         }
@@ -224,14 +180,71 @@ impl Sums {
     }
 }
 
+// What the lists of one mix came to.
+#[derive(Clone, Copy)]
+struct Totals {
+    books: u64,
+    steps: u64,
+    backs: u64,
+    refused: [u64; 6],
+    differing: u64,
+}
+
+impl Display for Totals {
+    fn fmt<W: fmt::Write>(&self, f: &mut fmt::Formatter<W>) -> fmt::Result {
+        let Totals {
+            books,
+            steps,
+            backs,
+            refused,
+            differing,
+        } = self;
+        write!(f, "BOOKS {books} STEPS {steps} BACKS {backs} REFUSED")?;
+        for count in refused {
+            write!(f, " {count}")?;
+        }
+        write!(f, " DIFFERING {differing}")
+    }
+}
+
+impl Totals {
+    fn new() -> Totals {
+        Totals {
+            books: 0,
+            steps: 0,
+            backs: 0,
+            refused: [0; 6],
+            differing: 0,
+        }
+    }
+
+    // Sums one more list.
+    fn count(&mut self, played: Option<Played>) {
+        self.books = self.books.saturating_add(1);
+        match played {
+            None => self.differing = self.differing.saturating_add(1),
+            Some(played) => {
+                self.steps = self.steps.saturating_add(played.steps);
+                self.backs = self.backs.saturating_add(played.backs);
+                for i in 0..6 {
+                    self.refused[i] = self.refused[i].saturating_add(played.refused[i]);
+                }
+            }
+        }
+    }
+}
+
 // All books of `count` rules, which are `many`, with the latest times of the numbers below `choices`.
 fn show(rt: &impl Print, n: usize, count: usize, many: usize, choices: usize) -> io::Result<()>
-    requires { (0 < n) × (n ≤ 3) × (count ≤ 2) }
+    requires { (0 < n) × (n ≤ 3) × (count ≤ 2) × (many ≤ 6561) × (choices ≤ 27) }
 {
     let mut run = Sums::new();
     let mut down = Sums::new();
     let mut up = Sums::new();
     let mut first = Sums::new();
+    let mut honest = Totals::new();
+    let mut forged = Totals::new();
+    let mut chance = Totals::new();
     for number in 0..many {
         let both = rules_of(n, number);
         let rules = &both[..count];
@@ -243,10 +256,20 @@ fn show(rt: &impl Print, n: usize, count: usize, many: usize, choices: usize) ->
                 down.count(answer, by_hand(Order::Down, n, rules, latest));
                 up.count(answer, by_hand(Order::Up, n, rules, latest));
                 first.count(answer, by_hand(Order::First, n, rules, latest));
+                let plan = match answer {
+                    Answer::Plan(times) => Some(times),
+                    _ => None,
+                };
+                honest.count(play(Mix::Honest, n, rules, latest, plan));
+                forged.count(play(Mix::Forged, n, rules, latest, plan));
+                chance.count(play(Mix::Chance(number * 27 + choice), n, rules, latest, plan));
             }
         }
     }
     for (name, sums) in [("RUN", run), ("DOWN", down), ("UP", up), ("FIRST", first)] {
+        println!(rt; "JOBS {n} RULES {count} {name} {sums}")?;
+    }
+    for (name, sums) in [("HONEST", honest), ("FORGED", forged), ("CHANCE", chance)] {
         println!(rt; "JOBS {n} RULES {count} {name} {sums}")?;
     }
     Ok(())

@@ -1,7 +1,7 @@
 // What the calls answer, worked out apart from the library. A job that the book has not stands at 0.
 use planner::{Fault, Rule, Slip, Solved, Tally};
 
-fn time_of(times: [i32; 3], job: u16) -> i32 {
+pub fn time_of(times: [i32; 3], job: u16) -> i32 {
     match job {
         0 => times[0],
         1 => times[1],
@@ -42,14 +42,14 @@ pub fn depth(times: [i32; 3]) -> u64 {
 }
 
 // The smallest latest time minus the offsets without sign.
-fn floor_of(rules: &[Rule], latest: [i32; 3]) -> i32 {
+pub fn floor_of(rules: &[Rule], latest: [i32; 3]) -> i32 {
     let smallest = latest[0].min(latest[1]).min(latest[2]);
     rules.iter().fold(smallest, |floor, r| {
         floor.saturating_sub(r.k.max(0i32.saturating_sub(r.k)))
     })
 }
 
-fn shows_none(rules: &[Rule], latest: [i32; 3], times: [i32; 3]) -> bool {
+pub fn shows_none(rules: &[Rule], latest: [i32; 3], times: [i32; 3]) -> bool {
     let floor = floor_of(rules, latest);
     times.iter().any(|t| *t < floor)
 }
@@ -69,6 +69,16 @@ pub struct State {
     pub times: [i32; 3],
     pub tally: Tally,
 }
+
+// A call on a board: a hand step on a rule by its number, or a step taken back by a slip.
+#[derive(Clone, Copy)]
+pub enum Call {
+    Step(usize),
+    Back(Slip),
+}
+
+// What a call says, with the slip where a hand step is done, and the state after it.
+pub type Called = (Result<Option<Slip>, Fault>, State);
 
 // The bench run: passes over the rules from rule 0 upward, to a pass without a step, or to the first job that falls. A book takes at most
 // 11 steps, since of three jobs two may stand 4 minutes above the floor and one 2.
@@ -95,12 +105,7 @@ pub fn run(rules: &[Rule], latest: [i32; 3]) -> (Solved, [i32; 3]) {
 }
 
 // A hand step, on a board that is legal and that its tally fits.
-pub fn step(
-    rules: &[Rule],
-    latest: [i32; 3],
-    state: State,
-    number: usize,
-) -> (Result<Slip, Fault>, State) {
+fn step(rules: &[Rule], latest: [i32; 3], state: State, number: usize) -> Called {
     let State { times, tally } = state;
     let r = match rules.get(number) {
         None => return (Err(Fault::NoSuchRule), state),
@@ -122,5 +127,39 @@ pub fn step(
         },
     };
     set_time(&mut after.times, slip.job, slip.after);
-    (Ok(slip), after)
+    (Ok(Some(slip)), after)
+}
+
+// A step taken back, on a board of n jobs that is legal and that its tally fits.
+fn step_back(n: usize, latest: [i32; 3], state: State, slip: Slip) -> Called {
+    let Slip { job, before, after } = slip;
+    let State { times, tally } = state;
+    if n <= usize::from(job) {
+        return (Err(Fault::NoSuchJob), state);
+    }
+    if time_of(times, job) != after || before <= after || time_of(latest, job) < before {
+        return (Err(Fault::SlipDiffers), state);
+    }
+    let off = u64::from(before.abs_diff(after));
+    let minutes = tally.minutes.saturating_sub(off);
+    // One step less would be no more than the minutes.
+    if tally.steps == 0 || minutes.saturating_add(1) < tally.steps {
+        return (Err(Fault::TallyShort), state);
+    }
+    let mut back = State {
+        times,
+        tally: Tally {
+            steps: tally.steps.saturating_sub(1),
+            minutes,
+        },
+    };
+    set_time(&mut back.times, job, before);
+    (Ok(None), back)
+}
+
+pub fn called(n: usize, rules: &[Rule], latest: [i32; 3], state: State, call: Call) -> Called {
+    match call {
+        Call::Step(number) => step(rules, latest, state, number),
+        Call::Back(slip) => step_back(n, latest, state, slip),
+    }
 }

@@ -7,7 +7,7 @@ use Prim.Native.Nat.{ℕ, ◌<◌, ◌≤◌}
 use lib.ListN.{length}
 use lib.IntN.{ℤ}
 use borrow.Author.Tests.{le-ltb, lt-ltb, eq-eqb, ne_eqb, eqb-true, eqb-false}
-use mir.Syntax.{w64}
+use mir.Syntax.{Width, w64}
 use mir.Val.{SFits, of_z, to_z}
 use mir.Facts.{to_z-of_z}
 use lib.Dec.{eqb}
@@ -38,12 +38,15 @@ pub all_in_jobs : (jobs : ℕ) (rules : List Rule) → Each (InBook jobs) rules 
 all_in_jobs jobs [] e = tt
 all_in_jobs jobs (r ∷ rules) e = (in_jobs jobs r e.0, all_in_jobs jobs rules e.1)
 
--- two numbers of 64 bits are one where their bits are
+-- two numbers are one where their bits are
+pub bits_one : {w : Width} {a b : ℤ} → SFits w a → SFits w b → of_z w a ≡ of_z w b → a ≡ b
+bits_one {w = w} f g e = sym (to_z-of_z f) ∙ (ap (to_z w) e ∙ to_z-of_z g)
+
 pub same_bits : (a b : ℤ) → SFits w64 a → SFits w64 b → eqb (of_z w64 a) (of_z w64 b) ≡ eq_z b a
 same_bits a b f g = by (eqb (of_z w64 a) (of_z w64 b)) refl
   where
     by : (t : Bool) → eqb (of_z w64 a) (of_z w64 b) ≡ t → eqb (of_z w64 a) (of_z w64 b) ≡ eq_z b a
-    by true e = e ∙ sym (true_eq b a (sym (sym (to_z-of_z f) ∙ (ap (to_z w64) (eqb-true (of_z w64 a) (of_z w64 b) e) ∙ to_z-of_z g))))
+    by true e = e ∙ sym (true_eq b a (sym (bits_one f g (eqb-true (of_z w64 a) (of_z w64 b) e))))
     by false e = e ∙ sym (by_test (eq_z b a) (λ q. eqb-false (of_z w64 a) (of_z w64 b) e (ap (of_z w64) (sym (eq_true b a q)))))
 
 -- the initial assignment, check by check: the reply, and the times after

@@ -8,96 +8,54 @@ use Rattle.derivation.specs.declared.Fault.TheVariants.{NoSuchRule}
 use Rattle.derivation.specs.Refusals.{answer}
 use Rattle.derivation.specs.Replies.{state_of}
 use Rattle.derivation.specs.Step.{State}
-use Rattle.solver.proofs.Steps.{legal_sum}
-use Rattle.planner.proofs.Answering.{taken, least_in, at_lowest, at_floor, small_sum, few_times, rule_in_jobs, held, step_room, step_refused, step_range, step_tally, step_no_rule, step_low, step_kept, step_done}
+use Rattle.planner.proofs.Answering.{taken}
+use Rattle.planner.proofs.Stepping.{standing, at_told, rule_in_board, step_room, step_refused, step_no_rule, step_low, step_kept, step_done}
 use Rattle.planner.proofs.hand_step.step.Goals as goal
 
-pub returns-in_err-k : goal.returns-in_err-k
-returns-in_err-k c =
+pub returns-in_err-floor : goal.returns-in_err-floor
+returns-in_err-floor c =
     let (q, r, same) = err_from_is_err_and c.from_residual.result c.from_residual.ensures.1 in
-    let t : q ≡ c.in_err-k.field-0.0 = search (rules, same) in
-    let e = step_refused (book c.args.n c.args.latest.now c.args.rules.now) (state_of c.args.times.now c.args.tally.now) c.args.number c.in_err-k.field-0.0 c.in_err-k.ensures in
+    let t : q ≡ c.in_err-floor.field-0.0 = search (rules, same) in
+    let e = step_refused (book c.args.n c.args.latest.now c.args.rules.now) (state_of c.args.times.now c.args.tally.now) c.args.number c.in_err-floor.field-0.0 c.in_err-floor.ensures in
     rw (r, t, e) (record { said = refl; times_after = refl; tally_after = refl })
-
-pub overflow_mul-k : goal.overflow_mul-k
-overflow_mul-k c = omega (arith, small_sum _ c.args.times.now c.in_ok-k.ensures)
-
-pub floor-lowest-requires : goal.floor-lowest-requires
-floor-lowest-requires c =
-    record {
-      bounded = least_in _ c.args.times.now c.in_ok-k.ensures (search rules) c.smallest-least.ensures;
-      small = omega (arith, small_sum _ c.args.times.now c.in_ok-k.ensures);
-    }
-
-pub floor-floor-requires : goal.floor-floor-requires
-floor-floor-requires c =
-    record {
-      bounded = least_in _ c.args.times.now c.in_ok-k.ensures (search rules) c.smallest-least.ensures;
-      small = omega (arith, small_sum _ c.args.times.now c.in_ok-k.ensures);
-    }
-
-pub returns-then-not-in_range : goal.returns-then-not-in_range
-returns-then-not-in_range c =
-    let range = at_lowest _ c.args.times.now c.in_ok-k.ensures (search rules) c.smallest-least.ensures (search rules) c.floor-lowest.ensures c.if-not-in_range.ensures in
-    let e = step_range _ (state_of c.args.times.now c.args.tally.now) c.args.number c.in_ok-k.ensures range in
-    rw (c.into.ensures, e) (record { said = refl; times_after = refl; tally_after = refl })
-
-pub tally_fits-requires : goal.tally_fits-requires
-tally_fits-requires c =
-    let range = at_lowest _ c.args.times.now c.in_ok-k.ensures (search rules) c.smallest-least.ensures (search rules) c.floor-lowest.ensures c.if-not-in_range.ensures in
-    record {
-      few = few_times _ c.args.times.now c.in_ok-k.ensures;
-      lowered = legal_sum (held _ (state_of c.args.times.now c.args.tally.now) c.args.number c.in_ok-k.ensures range);
-    }
-
-pub returns-then-not-tally_fits : goal.returns-then-not-tally_fits
-returns-then-not-tally_fits c =
-    let range = at_lowest _ c.args.times.now c.in_ok-k.ensures (search rules) c.smallest-least.ensures (search rules) c.floor-lowest.ensures c.if-not-in_range.ensures in
-    let e = step_tally _ (state_of c.args.times.now c.args.tally.now) c.args.number c.in_ok-k.ensures range (sym c.if-not-tally_fits.ensures) in
-    rw (c.into-then-not-tally_fits.ensures, e) (record { said = refl; times_after = refl; tally_after = refl })
 
 pub returns-in_err-r : goal.returns-in_err-r
 returns-in_err-r c =
     let h : length c.args.rules.now ≤ c.args.number = grind (arith, common_steps, gets) in
     let (q, r, same) = err_from_is_err_and c.from_residual-in_err-r.result c.from_residual-in_err-r.ensures.1 in
     let t : q ≡ refusal_for NoSuchRule = search (rules, same) in
-    let range = at_lowest _ c.args.times.now c.in_ok-k.ensures (search rules) c.smallest-least.ensures (search rules) c.floor-lowest.ensures c.if-not-in_range.ensures in
-    let e = step_no_rule _ (state_of c.args.times.now c.args.tally.now) c.args.number c.in_ok-k.ensures range (sym c.if-not-tally_fits.ensures) h in
+    let e = step_no_rule _ _ c.args.number (standing _ (state_of c.args.times.now c.args.tally.now) c.in_ok-floor.ensures) h in
     rw (r, t, e) (record { said = refl; times_after = refl; tally_after = refl })
 
 pub returns-then-below_floor : goal.returns-then-below_floor
 returns-then-below_floor c =
     let (h, r) = taken c.args.rules.now c.get.result _ c.get.ensures.lookup.3 c.in_ok-r.ensures.value in
-    let range = at_lowest _ c.args.times.now c.in_ok-k.ensures (search rules) c.smallest-least.ensures (search rules) c.floor-lowest.ensures c.if-not-in_range.ensures in
-    let above = at_floor _ c.args.times.now c.in_ok-k.ensures (search rules) c.smallest-least.ensures (search rules) c.floor-floor.ensures c.if-below_floor.ensures in
-    let e = step_low _ (state_of c.args.times.now c.args.tally.now) c.args.number c.in_ok-k.ensures range (sym c.if-not-tally_fits.ensures) h above in
-    rw (c.into-then-below_floor.ensures, e) (record { said = refl; times_after = refl; tally_after = refl })
+    let above = at_told _ (state_of c.args.times.now c.args.tally.now) c.in_ok-floor.ensures (search rules) c.if-below_floor.ensures in
+    let e = step_low _ _ c.args.number (standing _ (state_of c.args.times.now c.args.tally.now) c.in_ok-floor.ensures) h above in
+    rw (c.into.ensures, e) (record { said = refl; times_after = refl; tally_after = refl })
 
 pub is_satisfied-requires : goal.is_satisfied-requires
 is_satisfied-requires c =
     let (h, r) = taken c.args.rules.now c.get.result _ c.get.ensures.lookup.3 c.in_ok-r.ensures.value in
-    rw r (rule_in_jobs _ c.args.times.now c.in_ok-k.ensures _ h)
+    rw r (rule_in_board _ _ c.args.number (standing _ (state_of c.args.times.now c.args.tally.now) c.in_ok-floor.ensures) h)
 
 pub returns-then-is_satisfied : goal.returns-then-is_satisfied
 returns-then-is_satisfied c =
     let (h, r) = taken c.args.rules.now c.get.result _ c.get.ensures.lookup.3 c.in_ok-r.ensures.value in
-    let range = at_lowest _ c.args.times.now c.in_ok-k.ensures (search rules) c.smallest-least.ensures (search rules) c.floor-lowest.ensures c.if-not-in_range.ensures in
-    let above = at_floor _ c.args.times.now c.in_ok-k.ensures (search rules) c.smallest-least.ensures (search rules) c.floor-floor.ensures c.if-below_floor.ensures in
-    let e = step_kept _ (state_of c.args.times.now c.args.tally.now) c.args.number c.in_ok-k.ensures range (sym c.if-not-tally_fits.ensures) h above (sym (rw r at c.if-is_satisfied.ensures)) in
+    let above = at_told _ (state_of c.args.times.now c.args.tally.now) c.in_ok-floor.ensures (search rules) c.if-below_floor.ensures in
+    let e = step_kept _ _ c.args.number (standing _ (state_of c.args.times.now c.args.tally.now) c.in_ok-floor.ensures) h above (sym (rw r at c.if-is_satisfied.ensures)) in
     rw (c.into-then-is_satisfied.ensures, e) (record { said = refl; times_after = refl; tally_after = refl })
 
 pub take_step-requires : goal.take_step-requires
 take_step-requires c =
     let (h, r) = taken c.args.rules.now c.get.result _ c.get.ensures.lookup.3 c.in_ok-r.ensures.value in
-    let range = at_lowest _ c.args.times.now c.in_ok-k.ensures (search rules) c.smallest-least.ensures (search rules) c.floor-lowest.ensures c.if-not-in_range.ensures in
-    let above = at_floor _ c.args.times.now c.in_ok-k.ensures (search rules) c.smallest-least.ensures (search rules) c.floor-floor.ensures c.if-below_floor.ensures in
-    rw (← r) at (step_room _ (state_of c.args.times.now c.args.tally.now) c.args.number c.in_ok-k.ensures range (sym c.if-not-tally_fits.ensures) h above (sym (rw r at c.if-is_satisfied.ensures)))
+    let above = at_told _ (state_of c.args.times.now c.args.tally.now) c.in_ok-floor.ensures (search rules) c.if-below_floor.ensures in
+    rw (← r) at (step_room _ _ c.args.number (standing _ (state_of c.args.times.now c.args.tally.now) c.in_ok-floor.ensures) h above (sym (rw r at c.if-is_satisfied.ensures)))
 
 pub returns : goal.returns
 returns c =
     let (h, r) = taken c.args.rules.now c.get.result _ c.get.ensures.lookup.3 c.in_ok-r.ensures.value in
-    let range = at_lowest _ c.args.times.now c.in_ok-k.ensures (search rules) c.smallest-least.ensures (search rules) c.floor-lowest.ensures c.if-not-in_range.ensures in
-    let above = at_floor _ c.args.times.now c.in_ok-k.ensures (search rules) c.smallest-least.ensures (search rules) c.floor-floor.ensures c.if-below_floor.ensures in
-    let e = step_done _ (state_of c.args.times.now c.args.tally.now) c.args.number c.in_ok-k.ensures range (sym c.if-not-tally_fits.ensures) h above (sym (rw r at c.if-is_satisfied.ensures)) in
+    let above = at_told _ (state_of c.args.times.now c.args.tally.now) c.in_ok-floor.ensures (search rules) c.if-below_floor.ensures in
+    let e = step_done _ _ c.args.number (standing _ (state_of c.args.times.now c.args.tally.now) c.in_ok-floor.ensures) h above (sym (rw r at c.if-is_satisfied.ensures)) in
     let s = rw r at c.take_step.ensures.state_after in
     rw e (record { said = ap answer (rw r at c.take_step.ensures.told); times_after = ap (λ (state : State). state.times) s; tally_after = ap (λ (state : State). state.tally) s })
