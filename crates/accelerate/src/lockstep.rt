@@ -1,6 +1,6 @@
 // The lockstep test: two assignments go through the passes side by side, the near one and the far one, with the same decisions.
 ghost use Rattle.std.specs.Prelude.{◌≡◌, Bool, true, [], ◌∷◌, length, map, ℤ, ◌<ℤ◌, ◌≤ℤ◌, IfSome};
-ghost use Rattle.maxatom.specs.Clauses.{InJobs};
+ghost use Rattle.maxatom.specs.Inner.{InJobs};
 ghost use Rattle.maxatom.specs.Passes.{Lockstep};
 ghost use Rattle.clauses.specs.Passes.{InTimes};
 ghost use Rattle.accelerate.specs.Acceleration.{InLockstep};

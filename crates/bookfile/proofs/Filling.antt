@@ -17,8 +17,8 @@ use Rattle.derivation.specs.Refusals.{Reply, refused, answer, latest_outside}
 use Rattle.derivation.proofs.Checks.{answer_not}
 use Rattle.bookfile.specs.declared.reading.LatestTime.{LatestTime}
 use Rattle.bookfile.specs.Numbers.{word}
-use Rattle.bookfile.specs.Kinds.{latest_at, among}
-use Rattle.bookfile.specs.Reading.{latest_here, latest_reply, before, latest_from, read, latest_of, minute_of, minutes_from, latest_of_file}
+use Rattle.bookfile.specs.Kinds.{decoded_latest, among}
+use Rattle.bookfile.specs.Reading.{latest_here, latest_record_reply, before, latest_from, read, latest_records, minute_of, minutes_from, latest_of_file}
 use Rattle.bookfile.specs.Inner.{Listed}
 use Rattle.bookfile.proofs.Latest.{latest_is, latest_in_file, latest_in_book, latest_in_bounds, latest_first, times_more, times_end}
 use Rattle.bookfile.proofs.Walks.{listed_long, minutes_length}
@@ -32,21 +32,21 @@ Good jobs given (t ∷ more) =
 -- the first of the latest times that were read from a byte on, and the others, read with so many looks
 pub record First (most jobs : ℕ) (file given : List ℕ) (at : ℕ) (found : List LatestTime) : Type 0 where
   pub others : List LatestTime
-  pub taken : latest_reply jobs file (among (latest_at file at).job given) at ≡ answer (latest_at file at)
-  pub more : latest_from most jobs file ((latest_at file at).job ∷ given) (at + 8) ≡ answer others
-  pub is : found ≡ latest_at file at ∷ others
+  pub taken : latest_record_reply jobs file (among (decoded_latest file at).job given) at ≡ answer (decoded_latest file at)
+  pub more : latest_from most jobs file ((decoded_latest file at).job ∷ given) (at + 8) ≡ answer others
+  pub is : found ≡ decoded_latest file at ∷ others
 
 module _ (most jobs : ℕ) (file given : List ℕ) (at : ℕ) (found : List LatestTime)
     (e : latest_from (suc most) jobs file given at ≡ answer found) where
   pub first_of : latest_here file at ≡ true → First most jobs file given at found
   unfolding before
   first_of h =
-      go (latest_reply jobs file (among (latest_at file at).job given) at) refl
-      (latest_from most jobs file ((latest_at file at).job ∷ given) (at + 8)) refl
+      go (latest_record_reply jobs file (among (decoded_latest file at).job given) at) refl
+      (latest_from most jobs file ((decoded_latest file at).job ∷ given) (at + 8)) refl
       (sym (times_more most jobs file given at h) ∙ e)
     where
-      go : (said : Reply LatestTime) → latest_reply jobs file (among (latest_at file at).job given) at ≡ said →
-          (rest : Reply (List LatestTime)) → latest_from most jobs file ((latest_at file at).job ∷ given) (at + 8) ≡ rest →
+      go : (said : Reply LatestTime) → latest_record_reply jobs file (among (decoded_latest file at).job given) at ≡ said →
+          (rest : Reply (List LatestTime)) → latest_from most jobs file ((decoded_latest file at).job ∷ given) (at + 8) ≡ rest →
           before (λ t. t) said rest ≡ answer found → First most jobs file given at found
       go (refused number place) f rest g q = absurd (answer_not (sym q))
       go (answer t) f (refused number place) g q = absurd (answer_not (sym q))
@@ -64,11 +64,11 @@ pub good_from : (most jobs : ℕ) (file given : List ℕ) (at : ℕ) (found : Li
 unfolding latest_from
 good_from zero jobs file given at found e = absurd (answer_not (sym e))
 good_from (suc most) jobs file given at found e =
-    go (latest_here file at) refl (λ others f. good_from most jobs file ((latest_at file at).job ∷ given) (at + 8) others f)
+    go (latest_here file at) refl (λ others f. good_from most jobs file ((decoded_latest file at).job ∷ given) (at + 8) others f)
   where
     go : (t : Bool) → latest_here file at ≡ t →
-        ((others : List LatestTime) → latest_from most jobs file ((latest_at file at).job ∷ given) (at + 8) ≡ answer others →
-        Good jobs ((latest_at file at).job ∷ given) others) →
+        ((others : List LatestTime) → latest_from most jobs file ((decoded_latest file at).job ∷ given) (at + 8) ≡ answer others →
+        Good jobs ((decoded_latest file at).job ∷ given) others) →
         Good jobs given found
     go true h f =
         let s = first_of most jobs file given at found e h in
@@ -165,20 +165,20 @@ filled_none file l e =
     record {
       given = [];
       most = most_jobs + 1;
-      found = read (latest_of file);
+      found = read (latest_records file);
       low = listed_long file l;
       size = rw e (length-replicate (word file 2) (pos 0));
       reads = l.times;
       rest =
           rw e
-          (put_all (word file 2) (read (latest_of file)) (good_from (most_jobs + 1) (word file 2) file [] 4 (read (latest_of file)) l.times));
+          (put_all (word file 2) (read (latest_records file)) (good_from (most_jobs + 1) (word file 2) file [] 4 (read (latest_records file)) l.times));
     }
 
 -- a turn of the loop: the record is in the file, its job in the list, and storing its minute goes on from the next
 pub record Turn (file : List ℕ) (at : ℕ) (times : List ℤ) : Type 0 where
   pub inside : at + 8 ≤ length file
-  pub below : (latest_at file at).job < length times
-  pub next : {job : ℕ} {minute : ℤ} → job ≡ (latest_at file at).job → minute ≡ (latest_at file at).minute →
+  pub below : (decoded_latest file at).job < length times
+  pub next : {job : ℕ} {minute : ℤ} → job ≡ (decoded_latest file at).job → minute ≡ (decoded_latest file at).minute →
       Filled file (at + 8) (set times job minute)
 
 module _ {file : List ℕ} {at : ℕ} {times : List ℤ} (s : Filled file at times) where
@@ -199,7 +199,7 @@ module _ {file : List ℕ} {at : ℕ} {times : List ℤ} (s : Filled file at tim
             below = rw s.size (latest_in_book jobs file _ at f.taken);
             next = λ {job} {minute} p q.
                 record {
-                  given = (latest_at file at).job ∷ s.given;
+                  given = (decoded_latest file at).job ∷ s.given;
                   most = most;
                   found = f.others;
                   low = inside;

@@ -19,8 +19,8 @@ use Rattle.derivation.specs.declared.Fault.TheVariants.{LatestTime as Late}
 use Rattle.std.specs.Prelude.{Result, Ok, Err, ⊤}
 use Rattle.table.specs.Faults.{time_fault}
 use Rattle.bookfile.specs.declared.reading.LatestTime.{LatestTime}
-use Rattle.bookfile.specs.Kinds.{latest_at, among}
-use Rattle.bookfile.specs.Reading.{latest_here, latest_checks, latest_reply, before, latest_from}
+use Rattle.bookfile.specs.Kinds.{decoded_latest, among}
+use Rattle.bookfile.specs.Reading.{latest_here, latest_record_checks, latest_record_reply, before, latest_from}
 use Rattle.bookfile.specs.Inner.{ended}
 
 -- what the check of a latest time says, by whether it is outside its bounds
@@ -30,10 +30,10 @@ said_by t = cond t (Err Late) (Ok tt)
 -- the reply on a latest time's record, check by check
 module _ (jobs : ℕ) (file : List ℕ) (again : Bool) (at : ℕ) where
   abbrev said : Reply LatestTime
-  said = latest_reply jobs file again at
+  said = latest_record_reply jobs file again at
 
   abbrev time : LatestTime
-  time = latest_at file at
+  time = decoded_latest file at
 
   abbrev second : List Check
   second = check again 9 at ∷ []
@@ -45,12 +45,12 @@ module _ (jobs : ℕ) (file : List ℕ) (again : Bool) (at : ℕ) where
   job = check (leb jobs time.job) 6 at ∷ minute
 
   pub latest_cut : length file < at + 8 → said ≡ refused 1 at
-  unfolding latest_reply latest_checks
+  unfolding latest_record_reply latest_record_checks
   latest_cut h = says time (check (ltb (length file) (at + 8)) 1 at) job (lt-ltb _ _ h)
 
   module _ (h : at + 8 ≤ length file) where
     whole : said ≡ reply job time
-    unfolding latest_reply latest_checks
+    unfolding latest_record_reply latest_record_checks
     whole = skips time (check (ltb (length file) (at + 8)) 1 at) job (le-ltb _ _ h)
 
     pub latest_job : jobs ≤ time.job → said ≡ refused 6 at
@@ -86,37 +86,37 @@ module _ (jobs : ℕ) (file : List ℕ) (again : Bool) (at : ℕ) where
         latest_taken a = inside ∙ skips time (check again 9 at) [] a
 
 -- a record that is taken is in the file, its job in the book and its minute within the bounds, and it is the first for its job
-module _ (jobs : ℕ) (file : List ℕ) (again : Bool) (at : ℕ) {t : LatestTime} (e : latest_reply jobs file again at ≡ answer t) where
-  passes : Each Passes (latest_checks jobs file again at)
-  unfolding accepts latest_reply
-  passes = passed (latest_checks jobs file again at) (latest_at file at) (ap accepts e)
+module _ (jobs : ℕ) (file : List ℕ) (again : Bool) (at : ℕ) {t : LatestTime} (e : latest_record_reply jobs file again at ≡ answer t) where
+  passes : Each Passes (latest_record_checks jobs file again at)
+  unfolding accepts latest_record_reply
+  passes = passed (latest_record_checks jobs file again at) (decoded_latest file at) (ap accepts e)
 
-  pub latest_is : t ≡ latest_at file at
-  unfolding latest_reply
-  latest_is = let s = accepting (latest_checks jobs file again at) (latest_at file at) passes in cc
+  pub latest_is : t ≡ decoded_latest file at
+  unfolding latest_record_reply
+  latest_is = let s = accepting (latest_record_checks jobs file again at) (decoded_latest file at) passes in cc
 
   pub latest_in_file : at + 8 ≤ length file
-  unfolding latest_checks
+  unfolding latest_record_checks
   latest_in_file = ltb-false _ _ passes.0
 
   pub latest_in_book : t.job < jobs
-  unfolding latest_checks
+  unfolding latest_record_checks
   latest_in_book = rw latest_is (leb-false _ _ passes.1.0)
 
   pub latest_in_bounds : latest_outside t.minute ≡ false
-  unfolding latest_checks
+  unfolding latest_record_checks
   latest_in_bounds = rw latest_is passes.1.1.0
 
   pub latest_first : again ≡ false
-  unfolding latest_checks
+  unfolding latest_record_checks
   latest_first = passes.1.1.1.0
 
 -- the latest times from a byte on, where a record of one begins there, and where none does
 module _ (most jobs : ℕ) (file given : List ℕ) (at : ℕ) where
   pub times_more : latest_here file at ≡ true →
       latest_from (suc most) jobs file given at
-      ≡ before (λ t. t) (latest_reply jobs file (among (latest_at file at).job given) at)
-      (latest_from most jobs file ((latest_at file at).job ∷ given) (at + 8))
+      ≡ before (λ t. t) (latest_record_reply jobs file (among (decoded_latest file at).job given) at)
+      (latest_from most jobs file ((decoded_latest file at).job ∷ given) (at + 8))
   unfolding latest_from
   times_more h = cond_yes _ _ h
 
@@ -191,7 +191,7 @@ checking_none jobs file h k =
 
 module _ {jobs : ℕ} {file : List ℕ} {at : ℕ} {seen : List Bool} (s : Checking jobs file at seen) (here : latest_here file at ≡ true) where
   abbrev pub its_job : ℕ
-  its_job = (latest_at file at).job
+  its_job = (decoded_latest file at).job
 
   abbrev pub all : Reply ℕ
   all = ended 4 (latest_from (most_jobs + 1) jobs file [] 4)
@@ -211,22 +211,22 @@ module _ {jobs : ℕ} {file : List ℕ} {at : ℕ} {seen : List Bool} (s : Check
   abbrev later : Reply (List LatestTime)
   later = latest_from fewer.most jobs file (its_job ∷ s.given) (at + 8)
 
-  by : (said : Reply LatestTime) → latest_reply jobs file (get_or seen its_job false) at ≡ said →
+  by : (said : Reply LatestTime) → latest_record_reply jobs file (get_or seen its_job false) at ≡ said →
       ended at (before (λ t. t) said later) ≡ all
   by said e =
-      let f : latest_reply jobs file (among its_job s.given) at ≡ said = rw (← s.marks.marks its_job) e in
+      let f : latest_record_reply jobs file (among its_job s.given) at ≡ said = rw (← s.marks.marks its_job) e in
       sym
       (ap (λ (n : ℕ). ended at (latest_from n jobs file s.given at)) fewer.is
       ∙ ap (ended at) (times_more fewer.most jobs file s.given at here)
       ∙ ap (λ (r : Reply LatestTime). ended at (before (λ t. t) r later)) f)
       ∙ s.rest
 
-  pub checking_not : {number place : ℕ} → latest_reply jobs file (get_or seen its_job false) at ≡ refused number place →
+  pub checking_not : {number place : ℕ} → latest_record_reply jobs file (get_or seen its_job false) at ≡ refused number place →
       refused number place ≡ all
   unfolding before ended
   checking_not {number} {place} e = by (refused number place) e
 
-  module _ {t : LatestTime} (e : latest_reply jobs file (get_or seen its_job false) at ≡ answer t) (size : length seen ≡ 256)
+  module _ {t : LatestTime} (e : latest_record_reply jobs file (get_or seen its_job false) at ≡ answer t) (size : length seen ≡ 256)
       (few : jobs ≤ most_jobs) where
     pub checking_next : {job : ℕ} → job ≡ t.job → Checking jobs file (at + 8) (set seen job true)
     unfolding before ended

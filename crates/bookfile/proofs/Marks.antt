@@ -38,7 +38,7 @@ module _ (word : ℕ) where
   unfolding mark_of among
   unknown {fault} e = go (eqb word BK.mark) (eqb word CE.mark) (eqb word RU.mark) (eqb word HR.mark) e
     where
-      go : (p q r s : Bool) → by p q r s ≡ Err fault → (fault ≡ UnknownMark) × (not (p || (q || (r || (s || false)))) ≡ true)
+      go : (p q r s : Bool) → by p q r s ≡ Err fault → (fault ≡ UnknownMark) × (not (p || (q || (s || (r || false)))) ≡ true)
       go true q r s e = absurd (cc)
       go false true r s e = absurd (cc)
       go false false true s e = absurd (cc)

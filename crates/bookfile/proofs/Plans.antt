@@ -15,7 +15,7 @@ use Rattle.std.specs.Int.{w16, w32, to_le_bytes}
 use Rattle.derivation.specs.Refusals.{Reply, refused, answer, Check, check, verdict, lent, jobs_check}
 use Rattle.derivation.proofs.Checks.{says, skips, accepting}
 use Rattle.bookfile.specs.Numbers.{bytes_of, unsigned32}
-use Rattle.bookfile.specs.Writing.{plan_record, plan_from, plan_checks, planned, plan_out}
+use Rattle.bookfile.specs.Writing.{plan_record, plan_from, plan_checks, with_records, plan_out}
 
 -- a number's four bytes, each by division
 quarters : (n : ℕ) → (n / 65536 ≡ n / 256 / 256) × (n / 16777216 ≡ n / 256 / 256 / 256)
@@ -76,8 +76,8 @@ module _ {times : List ℤ} {out₀ : List ℕ} {at : ℕ} {out : List ℕ} {i :
         length-take-le i times p.low,
       )
 
-  pub put_all : length times ≤ i → out ≡ planned times out₀ at
-  unfolding planned
+  pub put_all : length times ≤ i → out ≡ with_records times out₀ at
+  unfolding with_records
   put_all l =
       let e : i ≡ length times = omega arith in
       p.is ∙ ap (λ (n : ℕ). (take at out₀ ++ plan_from 0 (take n times)) ++ drop (at + n * 8) out₀) e
@@ -140,7 +140,7 @@ module _ (times : List ℤ) (out : List ℕ) (at : ℕ) where
   unfolding plan_out lent
   plan_left s = rw s
 
-  pub plan_done : said ≡ answer tt → planned times out at ≡ plan_out times out at
+  pub plan_done : said ≡ answer tt → with_records times out at ≡ plan_out times out at
   unfolding plan_out lent
   plan_done s = rw s
 

@@ -16,8 +16,8 @@ use Rattle.maxatom.specs.declared.Rule.{Rule}
 use Rattle.derivation.specs.Refusals.{Reply, refused, answer, verdict}
 use Rattle.bookfile.specs.declared.reading.LatestTime.{LatestTime}
 use Rattle.bookfile.specs.Numbers.{word, long, signed16, signed32}
-use Rattle.bookfile.specs.Kinds.{Kind, jobs_at, latest_at, HR, rule_with, kind_at, size_at, rule_at, among}
-use Rattle.bookfile.specs.Reading.{head_checks, latest_here, latest_checks, latest_reply, record_checks, rule_reply, before, latest_from, rules_from, read, end_of, reading, latest_of, rules_begin, book_reply, latest_of_file}
+use Rattle.bookfile.specs.Kinds.{Kind, jobs_at, decoded_latest, HR, rule_with, kind_at, size_at, decoded_rule, among}
+use Rattle.bookfile.specs.Reading.{head_checks, latest_here, latest_record_checks, latest_record_reply, record_checks, rule_reply, before, latest_from, rules_from, read, end_of, reading, latest_records, rules_begin, book_reply, latest_of_file}
 use Rattle.bookfile.specs.Replies.{file_reply}
 use Rattle.bookfile.specs.Theorems.{FirstBytes}
 use Rattle.bookfile.proofs.Records.{size_bounds, own_checks, rule_hours, rule_minutes}
@@ -67,12 +67,12 @@ module _ (n : ℕ) (file : List ℕ) where
     unfolding latest_here
     here_same = rw (leb_length (at + 2) (omega arith), word_same at (omega arith))
 
-    time_same : latest_at cut at ≡ latest_at file at
-    unfolding latest_at
+    time_same : decoded_latest cut at ≡ decoded_latest file at
+    unfolding decoded_latest
     time_same = rw (word_same (at + 2) (omega arith), long_same (at + 4) (omega arith))
 
-    latest_same : (jobs : ℕ) (again : Bool) → latest_reply jobs cut again at ≡ latest_reply jobs file again at
-    unfolding latest_reply latest_checks
+    latest_same : (jobs : ℕ) (again : Bool) → latest_record_reply jobs cut again at ≡ latest_record_reply jobs file again at
+    unfolding latest_record_reply latest_record_checks
     latest_same jobs again = rw (length_lt (at + 8) h, time_same)
 
   module _ (at : ℕ) (h : at + 12 ≤ n) where
@@ -88,13 +88,13 @@ module _ (n : ℕ) (file : List ℕ) where
     unfolding rule_with
     fields_same k = rw (word_same (at + 2) (omega arith), word_same (at + 4) (omega arith), word_same (at + 6) (omega arith))
 
-    rule_same : rule_at cut at ≡ rule_at file at
+    rule_same : decoded_rule cut at ≡ decoded_rule file at
     rule_same = go (ℕ_discrete (word file at) HR.mark)
       where
         mark : word cut at ≡ word file at
         mark = word_same at (omega arith)
 
-        go : Dec (word file at ≡ HR.mark) → rule_at cut at ≡ rule_at file at
+        go : Dec (word file at ≡ HR.mark) → decoded_rule cut at ≡ decoded_rule file at
         go (yes e) =
             sym (rule_hours cut at (mark ∙ e)) ∙ fields_same _
             ∙ ap (λ (w : ℕ). rule_with file at (pos 60 *ℤ signed16 w)) (word_same (at + 8) (omega arith)) ∙ rule_hours file at e
@@ -130,8 +130,8 @@ times_same file jobs (suc most) given at count e h =
     rw (
       here_same 16384 file at f,
       time_same 16384 file at f,
-      latest_same 16384 file at f jobs (among (latest_at file at).job given),
-      times_same file jobs most ((latest_at file at).job ∷ given) (at + 8) (count + 1) (omega arith) (omega arith),
+      latest_same 16384 file at f jobs (among (decoded_latest file at).job given),
+      times_same file jobs most ((decoded_latest file at).job ∷ given) (at + 8) (count + 1) (omega arith) (omega arith),
     )
 
 -- and they are no more than the looks
@@ -139,9 +139,9 @@ times_few : (most jobs : ℕ) (file given : List ℕ) (at : ℕ) → length (rea
 unfolding latest_from before read
 times_few zero jobs file given at = omega arith
 times_few (suc most) jobs file given at =
-    go (latest_here file at) (latest_reply jobs file (among (latest_at file at).job given) at)
-    (latest_from most jobs file ((latest_at file at).job ∷ given) (at + 8))
-    (times_few most jobs file ((latest_at file at).job ∷ given) (at + 8))
+    go (latest_here file at) (latest_record_reply jobs file (among (decoded_latest file at).job given) at)
+    (latest_from most jobs file ((decoded_latest file at).job ∷ given) (at + 8))
+    (times_few most jobs file ((decoded_latest file at).job ∷ given) (at + 8))
   where
     go : (t : Bool) (said : Reply LatestTime) (rest : Reply (List LatestTime)) → length (read rest) ≤ most →
         length (read (cond t (before (λ x. x) said rest) (answer []))) ≤ suc most
@@ -168,7 +168,7 @@ module _ (file : List ℕ) where
   jobs_same : word (take 16384 file) 2 ≡ word file 2
   jobs_same = word_same 16384 file 2 (omega arith)
 
-  latest_of_same : latest_of (take 16384 file) ≡ latest_of file
+  latest_of_same : latest_records (take 16384 file) ≡ latest_records file
   latest_of_same = rw jobs_same (times_same file (word file 2) (most_jobs + 1) [] 4 0 refl (omega arith))
 
   begin_bound : rules_begin file ≤ 2060

@@ -26,7 +26,8 @@ use Rattle.bookfile.specs.contracts.mark.Mark.{the_type}
 use Rattle.bookfile.specs.Marks.{mark_of, is_rule}
 use Rattle.bookfile.proofs.Marks.{unknown, known, of_rule, of_book, said_of}
 use Rattle.bookfile.specs.Numbers.{word, long, signed16, signed32}
-use Rattle.bookfile.specs.Kinds.{beyond, cut, Kind, BK, jobs_at, rule_with, minutes_at, minutes_rule, RU, hours_at, hours_rule, HR, rule_marks, marks, among, kind_at, size_at, rule_at}
+use Rattle.bookfile.specs.Kinds.{kind_among, kind_checks, cut, Kind, BK, jobs_at, rule_with, minutes_at, minutes_rule, RU, hours_at, hours_rule, HR, rule_marks, marks, among, kind_at, size_at, decoded_rule}
+use Rattle.derivation.specs.Refusals.{beyond}
 use Rattle.bookfile.specs.Reading.{record_checks, rule_reply, head_checks}
 use Rattle.bookfile.specs.Inner.{said_at, head_reply}
 use Rattle.bookfile.proofs.Words.{sixty_beyond}
@@ -34,11 +35,11 @@ use Rattle.bookfile.proofs.Words.{sixty_beyond}
 -- the size of a rule's record, what it says, and the checks of that, by its mark
 module _ (file : List ℕ) (at : ℕ) where
   kind_hours : word file at ≡ HR.mark → kind_at file at ≡ HR
-  unfolding kind_at
+  unfolding kind_at kind_among
   kind_hours h = cond_yes _ _ (eq-eqb _ _ h)
 
   kind_minutes : (word file at ≡ HR.mark → ⊥) → kind_at file at ≡ RU
-  unfolding kind_at
+  unfolding kind_at kind_among
   kind_minutes h = cond_no _ _ (ne_eqb _ _ h)
 
   -- the test of hours, as a fact
@@ -54,36 +55,36 @@ module _ (file : List ℕ) (at : ℕ) where
   size_minutes h = ap (λ (k : Kind Rule). k.size) (kind_minutes h)
 
   pub size_bounds : (10 ≤ size_at file at) × (size_at file at ≤ 12)
-  unfolding size_at kind_at
+  unfolding size_at kind_at kind_among
   size_bounds = go (eqb (word file at) HR.mark)
     where
       go : (t : Bool) → (10 ≤ (cond t HR RU).size) × ((cond t HR RU).size ≤ 12)
       go true = (omega arith, omega arith)
       go false = (omega arith, omega arith)
 
-  pub rule_hours : word file at ≡ HR.mark → rule_with file at (pos 60 *ℤ signed16 (word file (at + 8))) ≡ rule_at file at
-  unfolding rule_at hours_rule hours_at
+  pub rule_hours : word file at ≡ HR.mark → rule_with file at (pos 60 *ℤ signed16 (word file (at + 8))) ≡ decoded_rule file at
+  unfolding decoded_rule hours_rule hours_at
   rule_hours h = sym (ap (λ (k : Kind Rule). k.says file at) (kind_hours h))
 
-  pub rule_minutes : (word file at ≡ HR.mark → ⊥) → rule_with file at (signed32 (long file (at + 8))) ≡ rule_at file at
-  unfolding rule_at minutes_rule minutes_at
+  pub rule_minutes : (word file at ≡ HR.mark → ⊥) → rule_with file at (signed32 (long file (at + 8))) ≡ decoded_rule file at
+  unfolding decoded_rule minutes_rule minutes_at
   rule_minutes h = sym (ap (λ (k : Kind Rule). k.says file at) (kind_minutes h))
 
   -- a rule by its fields, as the code puts it together
   pub rule_fields : {x y z : ℕ} {k : ℤ} → x ≡ word file (at + 2) → y ≡ word file (at + 4) → z ≡ word file (at + 6) →
-      rule_with file at k ≡ rule_at file at → record { x = x; y = y; z = z; k = k } ≡ rule_at file at
+      rule_with file at k ≡ decoded_rule file at → record { x = x; y = y; z = z; k = k } ≡ decoded_rule file at
   unfolding rule_with
   rule_fields p q r e = rw (p, q, r) e
 
   -- the checks of the two kinds: hours are outside their bounds where the offset is
   pub own_checks : (jobs : ℕ) →
-      (kind_at file at).checks jobs file at
-      ≡ cut (size_at file at) file at ∷ check (job_outside jobs (rule_at file at)) 6 at ∷ check (offset_outside (rule_at file at)) 7 at ∷ []
-  unfolding kind_at size_at rule_at offset_outside hours_rule minutes_rule rule_with beyond
+      kind_checks (kind_at file at) jobs file at
+      ≡ cut (size_at file at) file at ∷ check (job_outside jobs (decoded_rule file at)) 6 at ∷ check (offset_outside (decoded_rule file at)) 7 at ∷ []
+  unfolding kind_at kind_among size_at decoded_rule hours_rule minutes_rule rule_with beyond
   own_checks jobs = go (eqb (word file at) HR.mark)
     where
       go : (t : Bool) →
-          (cond t HR RU).checks jobs file at
+          kind_checks (cond t HR RU) jobs file at
           ≡ cut (cond t HR RU).size file at ∷ check (job_outside jobs ((cond t HR RU).says file at)) 6 at
           ∷ check (beyond most_minutes ((cond t HR RU).says file at).k) 7 at ∷ []
       go true =
@@ -102,7 +103,7 @@ module _ (jobs : ℕ) (file : List ℕ) (count at : ℕ) where
   said = rule_reply jobs file count at
 
   abbrev rule : Rule
-  rule = rule_at file at
+  rule = decoded_rule file at
 
   abbrev fields : List Check
   fields = check (job_outside jobs rule) 6 at ∷ check (offset_outside rule) 7 at ∷ []
@@ -111,7 +112,7 @@ module _ (jobs : ℕ) (file : List ℕ) (count at : ℕ) where
   whole = cut (size_at file at) file at ∷ fields
 
   abbrev own : List Check
-  own = (kind_at file at).checks jobs file at
+  own = kind_checks (kind_at file at) jobs file at
 
   abbrev full : List Check
   full = check (leb most_rules count) 5 at ∷ own

@@ -1,5 +1,5 @@
 -- Demand 1 for files: reading record by record says what one list of checks says. Assumes nothing.
-use mathlib.Core.Path.{◌≡◌, refl, sym, ap, ◌∙◌}
+use mathlib.Core.Path.{◌≡◌, refl, sym, ap, subst, ◌∙◌}
 use mathlib.Core.Bool.{Bool, true, false, cond}
 use mathlib.Core.List.{List, [], ◌∷◌, ◌++◌}
 use Prim.Native.Nat.{ℕ, zero, suc, ◌+◌, ◌<◌, ◌≤◌}
@@ -19,8 +19,8 @@ use Rattle.derivation.proofs.Checks.{answer_not}
 use Rattle.derivation.proofs.Refusing.{refuses, refusing}
 use Rattle.bookfile.specs.declared.reading.LatestTime.{LatestTime}
 use Rattle.bookfile.specs.Numbers.{word}
-use Rattle.bookfile.specs.Kinds.{CE, latest_at, among, kind_at, size_at, rule_at}
-use Rattle.bookfile.specs.Reading.{head_checks, latest_here, latest_checks, latest_reply, record_checks, rule_reply, entry, Entry, before, latest_from, rules_from, after, read, end_of, reading, latest_of, rules_begin, rules_of, book_reply, stretch}
+use Rattle.bookfile.specs.Kinds.{kind_checks, CE, decoded_latest, among, kind_at, size_at, decoded_rule}
+use Rattle.bookfile.specs.Reading.{head_checks, latest_here, latest_record_checks, latest_record_reply, record_checks, rule_reply, entry, Placed, before, latest_from, rules_from, after, read, end_of, reading, latest_records, rules_begin, rules_of, book_reply, stretch}
 use Rattle.bookfile.specs.Replies.{counted, room_checks, roomed, file_reply, read_reply, read_rules, read_latest}
 use Rattle.bookfile.specs.Writing.{plan_checks, plan_out}
 use Rattle.bookfile.specs.Theorems.{latest_checks_from, checks_from, file_checks, reader_checks, times_at, stretches, ToTheEnd, FileDemand1}
@@ -69,16 +69,16 @@ after_answer (answer a) second = refl
 -- the latest times from a byte on are refused as their checks are
 from_latest_checks : {A : Type 0} (a : A) (most jobs : ℕ) (file given : List ℕ) (at : ℕ) →
     reply (latest_checks_from most jobs file given at) a ≡ after (latest_from most jobs file given at) (answer a)
-unfolding latest_checks_from latest_from latest_reply after reply
+unfolding latest_checks_from latest_from latest_record_reply after reply
 from_latest_checks a zero jobs file given at = refl
 from_latest_checks a (suc most) jobs file given at =
     go (latest_here file at) (from_latest_checks a most jobs file (job ∷ given) (at + CE.size))
   where
     job : ℕ
-    job = (latest_at file at).job
+    job = (decoded_latest file at).job
 
     here : List Check
-    here = latest_checks jobs file (among job given) at
+    here = latest_record_checks jobs file (among job given) at
 
     behind : List Check
     behind = latest_checks_from most jobs file (job ∷ given) (at + CE.size)
@@ -87,14 +87,14 @@ from_latest_checks a (suc most) jobs file given at =
     rest = latest_from most jobs file (job ∷ given) (at + CE.size)
 
     said : Reply LatestTime
-    said = latest_reply jobs file (among job given) at
+    said = latest_record_reply jobs file (among job given) at
 
     go : (t : Bool) → reply behind a ≡ after rest (answer a) →
         reply (cond t (here ++ behind) []) a ≡ after (cond t (before (λ x. x) said rest) (answer [])) (answer a)
     go false h = refl
     go true h =
         after_append a here behind ∙ ap (after (verdict here)) h
-        ∙ sym (after_before (λ x. x) said rest (answer a) ∙ after_any (latest_at file at) here (after rest (answer a)))
+        ∙ sym (after_before (λ x. x) said rest (answer a) ∙ after_any (decoded_latest file at) here (after rest (answer a)))
 
 -- the records from a byte on are refused as their checks are
 from_checks : {A : Type 0} (a : A) (most jobs : ℕ) (file : List ℕ) (count at : ℕ) →
@@ -109,7 +109,7 @@ from_checks a (suc most) jobs file count at = go (leb (length file) at) (from_ch
     behind : List Check
     behind = checks_from most jobs file (count + 1) (at + size_at file at)
 
-    rest : Reply (List Entry)
+    rest : Reply (List Placed)
     rest = rules_from most jobs file (count + 1) (at + size_at file at)
 
     go : (t : Bool) → reply behind a ≡ after rest (answer a) →
@@ -119,14 +119,14 @@ from_checks a (suc most) jobs file count at = go (leb (length file) at) (from_ch
     go false h =
         after_append a here behind ∙ ap (after (verdict here)) h
         ∙ sym
-        (after_before (entry at) (rule_reply jobs file count at) rest (answer a) ∙ after_any (rule_at file at) here (after rest (answer a)))
+        (after_before (entry at) (rule_reply jobs file count at) rest (answer a) ∙ after_any (decoded_rule file at) here (after rest (answer a)))
 
 -- a file's reply, and the reader's, by what the first record says, and what the latest times and the rules behind it say
 module _ (jobs : ℕ) where
-  abbrev found : Reply (List Entry) → Counts
+  abbrev found : Reply (List Placed) → Counts
   found said = record { jobs = jobs; rules = length (read said) }
 
-  counted_after : (head : Reply (Unit {0})) (times : Reply (List LatestTime)) (rules : Reply (List Entry)) →
+  counted_after : (head : Reply (Unit {0})) (times : Reply (List LatestTime)) (rules : Reply (List Placed)) →
       counted jobs (after head (after times rules))
       ≡ after head (after times (after rules (answer (found (after head (after times rules))))))
   unfolding counted after read
@@ -135,7 +135,7 @@ module _ (jobs : ℕ) where
   counted_after (answer tt) (answer ts) (refused number place) = refl
   counted_after (answer tt) (answer ts) (answer es) = refl
 
-  roomed_after : (table list : ℕ) (head : Reply (Unit {0})) (times : Reply (List LatestTime)) (rules : Reply (List Entry)) →
+  roomed_after : (table list : ℕ) (head : Reply (Unit {0})) (times : Reply (List LatestTime)) (rules : Reply (List Placed)) →
       let all = after head (after times rules) in
       roomed table list (counted jobs all)
       ≡ after (after head (after times (after rules (answer (tt {0}))))) (reply (room_checks table list (found all)) (found all))
@@ -150,7 +150,7 @@ module _ (file : List ℕ) where
   counts = found (word file 2) (book_reply file)
 
   checks_say : {A : Type 0} (a : A) →
-      reply (file_checks file) a ≡ after (verdict (head_checks file)) (after (latest_of file) (after (rules_of file) (answer a)))
+      reply (file_checks file) a ≡ after (verdict (head_checks file)) (after (latest_records file) (after (rules_of file) (answer a)))
   checks_say a =
       let times = latest_checks_from (most_jobs + 1) (word file 2) file [] 4 in
       let rules = checks_from (most_rules + 1) (word file 2) file 0 (rules_begin file) in
@@ -160,16 +160,16 @@ module _ (file : List ℕ) where
       ∙ ap (after (verdict times)) (from_checks a (most_rules + 1) (word file 2) file 0 (rules_begin file))
       ∙ ap (λ (s : Reply (Unit {0})). after s (after (rules_of file) (answer a)))
       (from_latest_checks (tt {0}) (most_jobs + 1) (word file 2) file [] 4)
-      ∙ after_answer (latest_of file) (after (rules_of file) (answer a)))
+      ∙ after_answer (latest_records file) (after (rules_of file) (answer a)))
 
   file_is : file_reply file ≡ reply (file_checks file) counts
   unfolding file_reply book_reply reading
-  file_is = counted_after (word file 2) (verdict (head_checks file)) (latest_of file) (rules_of file) ∙ sym (checks_say counts)
+  file_is = counted_after (word file 2) (verdict (head_checks file)) (latest_records file) (rules_of file) ∙ sym (checks_say counts)
 
   read_is : (table list : ℕ) → read_reply file table list ≡ reply (reader_checks file table list) counts
   unfolding read_reply file_reply book_reply reading
   read_is table list =
-      roomed_after (word file 2) table list (verdict (head_checks file)) (latest_of file) (rules_of file)
+      roomed_after (word file 2) table list (verdict (head_checks file)) (latest_records file) (rules_of file)
       ∙ sym
       (after_append counts (file_checks file) _
       ∙ ap (λ (s : Reply (Unit {0})). after s (reply (room_checks table list counts) counts)) (checks_say (tt {0})))
@@ -182,10 +182,10 @@ same_times zero n jobs file given at h k = absurd (omega arith)
 same_times (suc m) zero jobs file given at h k = absurd (omega arith)
 same_times (suc m) (suc n) jobs file given at h k =
     go (latest_here file at)
-    (by (latest_reply jobs file (among job given) at) refl (λ h k. same_times m n jobs file (job ∷ given) (at + CE.size) h k))
+    (by (latest_record_reply jobs file (among job given) at) refl (λ h k. same_times m n jobs file (job ∷ given) (at + CE.size) h k))
   where
     job : ℕ
-    job = (latest_at file at).job
+    job = (decoded_latest file at).job
 
     long : Reply (List LatestTime)
     long = latest_from m jobs file (job ∷ given) (at + CE.size)
@@ -193,7 +193,7 @@ same_times (suc m) (suc n) jobs file given at h k =
     short : Reply (List LatestTime)
     short = latest_from n jobs file (job ∷ given) (at + CE.size)
 
-    by : (said : Reply LatestTime) → latest_reply jobs file (among job given) at ≡ said →
+    by : (said : Reply LatestTime) → latest_record_reply jobs file (among job given) at ≡ said →
         (left jobs (job ∷ given) < m → left jobs (job ∷ given) < n → long ≡ short) → before (λ x. x) said long ≡ before (λ x. x) said short
     by (refused number place) e f = refl
     by (answer t) e f =
@@ -203,10 +203,10 @@ same_times (suc m) (suc n) jobs file given at h k =
         ap (before (λ x. x) (answer t)) (f (omega arith) (omega arith))
 
     go : (t : Bool) →
-        before (λ x. x) (latest_reply jobs file (among job given) at) long
-        ≡ before (λ x. x) (latest_reply jobs file (among job given) at) short →
-        cond t (before (λ x. x) (latest_reply jobs file (among job given) at) long) (answer [])
-        ≡ cond t (before (λ x. x) (latest_reply jobs file (among job given) at) short) (answer [])
+        before (λ x. x) (latest_record_reply jobs file (among job given) at) long
+        ≡ before (λ x. x) (latest_record_reply jobs file (among job given) at) short →
+        cond t (before (λ x. x) (latest_record_reply jobs file (among job given) at) long) (answer [])
+        ≡ cond t (before (λ x. x) (latest_record_reply jobs file (among job given) at) short) (answer [])
     go true e = e
     go false e = refl
 
@@ -220,10 +220,10 @@ same_from (suc m) (suc n) jobs file count at c h k =
     go (leb (length file) at)
     (by (rule_reply jobs file count at) refl (λ c h k. same_from m n jobs file (count + 1) (at + size_at file at) c h k))
   where
-    long : Reply (List Entry)
+    long : Reply (List Placed)
     long = rules_from m jobs file (count + 1) (at + size_at file at)
 
-    short : Reply (List Entry)
+    short : Reply (List Placed)
     short = rules_from n jobs file (count + 1) (at + size_at file at)
 
     by : (said : Reply Rule) → rule_reply jobs file count at ≡ said →
@@ -240,18 +240,18 @@ same_from (suc m) (suc n) jobs file count at c h k =
     go false e = e
 
 -- A reading that is not refused has taken every byte from the one where it began.
-whole_from : (most jobs : ℕ) (file : List ℕ) (count at : ℕ) (found : List Entry) → rules_from most jobs file count at ≡ answer found →
+whole_from : (most jobs : ℕ) (file : List ℕ) (count at : ℕ) (found : List Placed) → rules_from most jobs file count at ≡ answer found →
     stretches file found ≡ drop at file
 unfolding rules_from stretches stretch
 whole_from zero jobs file count at found e = absurd (answer_not (sym e))
 whole_from (suc most) jobs file count at found e =
     go (leb (length file) at) refl (whole_from most jobs file (count + 1) (at + size_at file at)) e
   where
-    rest : Reply (List Entry)
+    rest : Reply (List Placed)
     rest = rules_from most jobs file (count + 1) (at + size_at file at)
 
     go : (t : Bool) → leb (length file) at ≡ t →
-        ((others : List Entry) → rest ≡ answer others → stretches file others ≡ drop (at + size_at file at) file) →
+        ((others : List Placed) → rest ≡ answer others → stretches file others ≡ drop (at + size_at file at) file) →
         cond t (answer []) (before (entry at) (rule_reply jobs file count at) rest) ≡ answer found → stretches file found ≡ drop at file
     go true l f q =
         let none : found ≡ [] = cc in
@@ -266,15 +266,15 @@ times_from : (most jobs : ℕ) (file given : List ℕ) (at : ℕ) (found : List 
 unfolding latest_from times_at
 times_from zero jobs file given at found e = absurd (answer_not (sym e))
 times_from (suc most) jobs file given at found e =
-    go (latest_here file at) refl (λ others f. times_from most jobs file ((latest_at file at).job ∷ given) (at + CE.size) others f)
+    go (latest_here file at) refl (λ others f. times_from most jobs file ((decoded_latest file at).job ∷ given) (at + CE.size) others f)
   where
     go : (t : Bool) → latest_here file at ≡ t →
-        ((others : List LatestTime) → latest_from most jobs file ((latest_at file at).job ∷ given) (at + CE.size) ≡ answer others →
+        ((others : List LatestTime) → latest_from most jobs file ((decoded_latest file at).job ∷ given) (at + CE.size) ≡ answer others →
         others ≡ times_at file (at + CE.size) (length others)) →
         found ≡ times_at file at (length found)
     go true h f =
         let s = first_of most jobs file given at found e h in
-        rw s.is (ap (λ (l : List LatestTime). latest_at file at ∷ l) (f s.others s.more))
+        rw s.is (ap (λ (l : List LatestTime). decoded_latest file at ∷ l) (f s.others s.more))
     go false h f = rw (none_of most jobs file given at found e h) refl
 
 pub to_the_end : (file : List ℕ) → ToTheEnd file
@@ -292,7 +292,7 @@ to_the_end file =
     go : (more others : ℕ) (head : Reply (Unit {0})) → verdict (head_checks file) ≡ head →
         let many = latest_from (most_jobs + 1 + more) jobs file [] 4 in
         after head (after many (rules_from (most_rules + 1 + others) jobs file 0 (end_of many)))
-        ≡ after head (after (latest_of file) (rules_of file))
+        ≡ after head (after (latest_records file) (rules_of file))
     go more others (refused number place) e = refl
     go more others (answer tt) e =
         let few : left jobs [] ≤ most_jobs = omega (arith, left_all jobs, passes_few file e) in
@@ -325,16 +325,16 @@ module _ (more : List ℕ) where
   nine = (8, omega arith, refl)
 
   latest_numbers : (most jobs : ℕ) (file given : List ℕ) (at : ℕ) → Each Own (latest_checks_from most jobs file given at)
-  unfolding latest_checks_from latest_checks
+  unfolding latest_checks_from latest_record_checks
   latest_numbers zero jobs file given at = (nine, tt)
   latest_numbers (suc most) jobs file given at =
-      go (latest_here file at) (latest_numbers most jobs file ((latest_at file at).job ∷ given) (at + CE.size))
+      go (latest_here file at) (latest_numbers most jobs file ((decoded_latest file at).job ∷ given) (at + CE.size))
     where
       here : List Check
-      here = latest_checks jobs file (among (latest_at file at).job given) at
+      here = latest_record_checks jobs file (among (decoded_latest file at).job given) at
 
       behind : List Check
-      behind = latest_checks_from most jobs file ((latest_at file at).job ∷ given) (at + CE.size)
+      behind = latest_checks_from most jobs file ((decoded_latest file at).job ∷ given) (at + CE.size)
 
       go : (t : Bool) → Each Own behind → Each Own (cond t (here ++ behind) [])
       go false h = tt
@@ -345,13 +345,13 @@ module _ (more : List ℕ) where
   from_numbers zero jobs file count at = ((4, omega arith, refl), tt)
   from_numbers (suc most) jobs file count at = go (leb (length file) at) (from_numbers most jobs file (count + 1) (at + size_at file at))
     where
-      own : Each Own ((kind_at file at).checks jobs file at)
-      own = rw (own_checks file at jobs) (one, (six, ((6, omega arith, refl), tt)))
+      own : Each Own (kind_checks (kind_at file at) jobs file at)
+      own = subst (Each Own) (sym (own_checks file at jobs)) (one, (six, ((6, omega arith, refl), tt)))
 
       go : (t : Bool) → Each Own (checks_from most jobs file (count + 1) (at + size_at file at)) →
           Each Own (cond t [] (record_checks jobs file count at ++ checks_from most jobs file (count + 1) (at + size_at file at)))
       go true h = tt
-      go false h = (one, (two, (three, ((4, omega arith, refl), each_join Own ((kind_at file at).checks jobs file at) _ own h))))
+      go false h = (one, (two, (three, ((4, omega arith, refl), each_join Own (kind_checks (kind_at file at) jobs file at) _ own h))))
 
   file_numbers : (file : List ℕ) → Each Own (file_checks file)
   unfolding head_checks

@@ -1,5 +1,5 @@
 -- The rules of a book's file, record by record. Assumes nothing.
-use mathlib.Core.Path.{◌≡◌, refl, sym, ap, ◌∙◌}
+use mathlib.Core.Path.{◌≡◌, refl, sym, ap, subst, ◌∙◌}
 use mathlib.Core.List.{List, []}
 use Prim.Native.Nat.{ℕ, suc, ◌+◌, ◌-◌, ◌<◌, ◌≤◌}
 use native.Mathlib.Omega.{arith}
@@ -10,8 +10,8 @@ use Rattle.maxatom.specs.declared.Rule.{Rule}
 use Rattle.maxatom.proofs.Choose.{cond_yes, cond_no}
 use Rattle.derivation.specs.Refusals.{Reply, refused, answer, accepts}
 use Rattle.derivation.proofs.Checks.{Passes, passed, accepting}
-use Rattle.bookfile.specs.Kinds.{kind_at, size_at, rule_at}
-use Rattle.bookfile.specs.Reading.{record_checks, rule_reply, entry, Entry, before, rules_from}
+use Rattle.bookfile.specs.Kinds.{kind_checks, kind_at, size_at, decoded_rule}
+use Rattle.bookfile.specs.Reading.{record_checks, rule_reply, entry, Placed, before, rules_from}
 use Rattle.bookfile.specs.Replies.{counted}
 use Rattle.derivation.specs.declared.Counts.{Counts}
 use Rattle.bookfile.proofs.Records.{own_checks}
@@ -24,28 +24,28 @@ looks = most_rules + 1
 module _ (jobs : ℕ) (file : List ℕ) (count at : ℕ) {r : Rule} (e : rule_reply jobs file count at ≡ answer r) where
   pub passes : Each Passes (record_checks jobs file count at)
   unfolding accepts rule_reply
-  passes = passed (record_checks jobs file count at) (rule_at file at) (ap accepts e)
+  passes = passed (record_checks jobs file count at) (decoded_rule file at) (ap accepts e)
 
   pub in_file : at + size_at file at ≤ length file
   unfolding record_checks
   in_file =
-      let own : Each Passes ((kind_at file at).checks jobs file at) = passes.1.1.1.1 in
-      ltb-false _ _ (rw (own_checks file at jobs) at own).0
+      let own : Each Passes (kind_checks (kind_at file at) jobs file at) = passes.1.1.1.1 in
+      ltb-false _ _ (subst (Each Passes) (own_checks file at jobs) own).0
 
   pub not_full : count < most_rules
   unfolding record_checks
   not_full = leb-false _ _ passes.1.1.1.0
 
-  pub rule_is : r ≡ rule_at file at
+  pub rule_is : r ≡ decoded_rule file at
   unfolding rule_reply
-  rule_is = let s = accepting (record_checks jobs file count at) (rule_at file at) passes in cc
+  rule_is = let s = accepting (record_checks jobs file count at) (decoded_rule file at) passes in cc
 
 -- the records from a byte on
 module _ (jobs : ℕ) (file : List ℕ) (count at : ℕ) where
-  abbrev pub from : Reply (List Entry)
+  abbrev pub from : Reply (List Placed)
   from = rules_from (looks - count) jobs file count at
 
-  abbrev pub next : Reply (List Entry)
+  abbrev pub next : Reply (List Placed)
   next = rules_from (looks - (count + 1)) jobs file (count + 1) (at + size_at file at)
 
   pub from_record : count ≤ most_rules → at < length file → from ≡ before (entry at) (rule_reply jobs file count at) next
@@ -75,7 +75,7 @@ pub scanned_none : (jobs : ℕ) (file : List ℕ) (begin : ℕ) → begin ≤ le
 unfolding added counted
 scanned_none jobs file begin h = record { low = h; few = omega arith; rest = go (rules_from looks jobs file 0 begin) }
   where
-    go : (said : Reply (List Entry)) → added 0 (counted jobs said) ≡ counted jobs said
+    go : (said : Reply (List Placed)) → added 0 (counted jobs said) ≡ counted jobs said
     go (refused number place) = refl
     go (answer entries) = let e : 0 + length entries ≡ length entries = omega arith in rw e
 
@@ -89,13 +89,13 @@ module _ {jobs : ℕ} {file : List ℕ} {begin at count : ℕ} (s : Scanned jobs
         few = omega (arith, not_full jobs file count at e);
         rest =
             sym
-            (ap (λ (x : Reply (List Entry)). added count (counted jobs x))
+            (ap (λ (x : Reply (List Placed)). added count (counted jobs x))
             (from_record jobs file count at s.few l ∙ ap (λ (x : Reply Rule). before (entry at) x (next jobs file count at)) e)
             ∙ go (next jobs file count at))
             ∙ s.rest;
       }
     where
-      go : (said : Reply (List Entry)) →
+      go : (said : Reply (List Placed)) →
           added count (counted jobs (before (entry at) (answer r) said)) ≡ added (count + 1) (counted jobs said)
       go (refused number place) = refl
       go (answer entries) =
@@ -107,7 +107,7 @@ module _ {jobs : ℕ} {file : List ℕ} {begin at count : ℕ} (s : Scanned jobs
   unfolding added counted before
   scanned_not {number} {place} l e =
       sym
-      (ap (λ (x : Reply (List Entry)). added count (counted jobs x))
+      (ap (λ (x : Reply (List Placed)). added count (counted jobs x))
       (from_record jobs file count at s.few l ∙ ap (λ (x : Reply Rule). before (entry at) x (next jobs file count at)) e))
       ∙ s.rest
 
@@ -116,7 +116,7 @@ module _ {jobs : ℕ} {file : List ℕ} {begin at count : ℕ} (s : Scanned jobs
   scanned_all l =
       let n : count + 0 ≡ count = omega arith in
       sym
-      (ap (λ (x : Reply (List Entry)). added count (counted jobs x)) (from_end jobs file count at s.few l)
+      (ap (λ (x : Reply (List Placed)). added count (counted jobs x)) (from_end jobs file count at s.few l)
       ∙ ap (λ (m : ℕ). answer (record { jobs = jobs; rules = m })) n)
       ∙ s.rest
 

@@ -8,8 +8,8 @@ use lib.Seq.{get_or-drop, drop-cons, take-suc, length-take-le, set-append_seam, 
 use lib.ListN.{length, take, drop, set, get_or, get_or-map, length-map, drop_of_length-le}
 use Rattle.maxatom.specs.declared.Rule.{Rule}
 use Rattle.derivation.specs.Step.{no_rule}
-use Rattle.bookfile.specs.Kinds.{size_at, rule_at}
-use Rattle.bookfile.specs.Reading.{entry, Entry, rules_begin, entries, rules_of_file}
+use Rattle.bookfile.specs.Kinds.{size_at, decoded_rule}
+use Rattle.bookfile.specs.Reading.{entry, Placed, rules_begin, entries, rules_of_file}
 use Rattle.bookfile.specs.Inner.{Listed, Begins}
 use Rattle.bookfile.proofs.Walks.{Walked, walked_none, walked_begins, walked_next}
 
@@ -22,22 +22,22 @@ pub stored_none : (file : List ℕ) (places : List Rule) → Listed file → Sto
 stored_none file places l = record { walked = walked_none file l; is = refl }
 
 -- the rule whose record begins at a byte is the rule of that number
-rule_here : {file : List ℕ} {number at : ℕ} → Begins file number at → get_or (rules_of_file file) number no_rule ≡ rule_at file at
+rule_here : {file : List ℕ} {number at : ℕ} → Begins file number at → get_or (rules_of_file file) number no_rule ≡ decoded_rule file at
 rule_here {file} {number} {at} b =
-    let none : Entry = entry 0 no_rule in
+    let none : Placed = entry 0 no_rule in
     let es = entries file in
-    let here : get_or es number none ≡ entry at (rule_at file at) =
+    let here : get_or es number none ≡ entry at (decoded_rule file at) =
     sym
-    (sym (ap (λ (l : List Entry). get_or l 0 none) b.here) ∙ (get_or-drop number es 0 none ∙ ap (λ (j : ℕ). get_or es j none) (omega arith))) in
-    get_or-map (λ (q : Entry). q.rule) es number none ∙ ap (λ (q : Entry). q.rule) here
+    (sym (ap (λ (l : List Placed). get_or l 0 none) b.here) ∙ (get_or-drop number es 0 none ∙ ap (λ (j : ℕ). get_or es j none) (omega arith))) in
+    get_or-map (λ (q : Placed). q.rule) es number none ∙ ap (λ (q : Placed). q.rule) here
 
 module _ {file : List ℕ} {places : List Rule} {at i : ℕ} {rules : List Rule} (s : Stored file places at i rules) where
   stored_next : i < length (entries file) → i < length places →
-      Stored file places (at + size_at file at) (i + 1) (set rules i (rule_at file at))
+      Stored file places (at + size_at file at) (i + 1) (set rules i (decoded_rule file at))
   stored_next h l =
       let fresh = rules_of_file file in
-      let r = rule_at file at in
-      let many : length fresh ≡ length (entries file) = length-map (entries file) (λ (e : Entry). e.rule) in
+      let r = decoded_rule file at in
+      let many : length fresh ≡ length (entries file) = length-map (entries file) (λ (e : Placed). e.rule) in
       let size : length (take i fresh) ≡ i = length-take-le i fresh (omega arith) in
       let next : i + 1 ≡ suc i = add-one i in
       let more : take (i + 1) fresh ≡ take i fresh ++ (r ∷ []) =
@@ -60,13 +60,13 @@ module _ (file : List ℕ) (places : List Rule) (size : length places ≡ length
     pub turn_inside : i < length places → at + size_at file at ≤ length file
     turn_inside h = (walked_begins s.walked (omega arith)).inside
 
-    pub turn_next : i < length places → {next : ℕ} {r : Rule} → next ≡ at + size_at file at → r ≡ rule_at file at →
+    pub turn_next : i < length places → {next : ℕ} {r : Rule} → next ≡ at + size_at file at → r ≡ decoded_rule file at →
         Stored file places next (i + 1) (set rules i r)
     turn_next h e f = rw (e, f) (stored_next s (omega arith) h)
 
     pub stored_all : length places ≤ i → rules ≡ rules_of_file file
     stored_all h =
         let fresh = rules_of_file file in
-        let whole : take i fresh ≡ fresh = take_all i fresh (omega (arith, length-map (entries file) (λ (q : Entry). q.rule))) in
+        let whole : take i fresh ≡ fresh = take_all i fresh (omega (arith, length-map (entries file) (λ (q : Placed). q.rule))) in
         let none : drop i places ≡ [] = drop_of_length-le places {i = i} h in
         s.is ∙ ap (λ (q : List Rule). q ++ drop i places) whole ∙ ap (λ (q : List Rule). fresh ++ q) none ∙ append-nil fresh

@@ -14,15 +14,15 @@ use lib.IntN.{ℤ, pos, ◌*ℤ◌}
 use Rattle.derivation.specs.Refusals.{Reply, refused, answer, verdict}
 use Rattle.bookfile.specs.declared.reading.LatestTime.{LatestTime}
 use Rattle.bookfile.specs.Numbers.{word, long, signed16, signed32}
-use Rattle.bookfile.specs.Kinds.{RU, HR, rule_with, kind_at, size_at, rule_at}
-use Rattle.bookfile.specs.Reading.{head_checks, entry, Entry, after, read, reading, latest_of, rules_begin, rules_of, book_reply, entries, record_of}
+use Rattle.bookfile.specs.Kinds.{kind_among, RU, HR, rule_with, kind_at, size_at, decoded_rule}
+use Rattle.bookfile.specs.Reading.{head_checks, entry, Placed, after, read, reading, latest_records, rules_begin, rules_of, book_reply, entries, record_of}
 use Rattle.bookfile.specs.Inner.{Listed}
 use Rattle.bookfile.specs.Theorems.{TakenFrom, RecordFacts}
 use Rattle.bookfile.proofs.Records.{size_bounds, size_hours, size_minutes, rule_hours, rule_minutes}
 use Rattle.bookfile.proofs.Walks.{Walked, walked_none, walked_next, walked_begins, record_none, record_here}
 
 -- a file with rules is not refused
-listed_some : (head : Reply (Unit {0})) (times : Reply (List LatestTime)) (rules : Reply (List Entry)) →
+listed_some : (head : Reply (Unit {0})) (times : Reply (List LatestTime)) (rules : Reply (List Placed)) →
     1 ≤ length (read (after head (after times rules))) →
     (head ≡ answer tt) × (times ≡ answer (read times)) × (rules ≡ answer (read (after head (after times rules))))
 unfolding after read
@@ -34,7 +34,7 @@ listed_some (answer tt) (answer found) (answer es) h = (refl, refl, refl)
 listed_by : (file : List ℕ) → 1 ≤ length (entries file) → Listed file
 unfolding book_reply reading
 listed_by file h =
-    let p = listed_some (verdict (head_checks file)) (latest_of file) (rules_of file) h in record { head = p.0; times = p.1; all = p.2 }
+    let p = listed_some (verdict (head_checks file)) (latest_records file) (rules_of file) h in record { head = p.0; times = p.1; all = p.2 }
 
 -- where the walk stands after i rules
 record Stands (file : List ℕ) (i : ℕ) : Type 0 where
@@ -79,10 +79,10 @@ module _ (file : List ℕ) (at : ℕ) (h : at + size_at file at ≤ length file)
   unfolding rule_with
   fields_here k = let b = size_bounds file at in rw (word_here 2 (omega arith), word_here 4 (omega arith), word_here 6 (omega arith))
 
-  rule_here : rule_at bytes 0 ≡ rule_at file at
+  rule_here : decoded_rule bytes 0 ≡ decoded_rule file at
   rule_here = go (ℕ_discrete (word file at) HR.mark)
     where
-      go : Dec (word file at ≡ HR.mark) → rule_at bytes 0 ≡ rule_at file at
+      go : Dec (word file at ≡ HR.mark) → decoded_rule bytes 0 ≡ decoded_rule file at
       go (yes e) =
           sym (rule_hours bytes 0 (mark_here ∙ e)) ∙ fields_here _
           ∙ ap (λ (n : ℕ). rule_with file at (pos 60 *ℤ signed16 n)) (word_here 8 (omega (arith, size_hours file at e)))
@@ -92,7 +92,7 @@ module _ (file : List ℕ) (at : ℕ) (h : at + size_at file at ≤ length file)
           ∙ ap (λ (n : ℕ). rule_with file at (signed32 n)) (long_here 8 (omega (arith, size_minutes file at e))) ∙ rule_minutes file at e
 
   size_here : size_at bytes 0 ≡ size_at file at
-  unfolding size_at kind_at
+  unfolding size_at kind_at kind_among
   size_here = ap (λ (w : ℕ). (cond (eqb w HR.mark) HR RU).size) mark_here
 
 module _ (file : List ℕ) (number : ℕ) where
@@ -102,7 +102,7 @@ module _ (file : List ℕ) (number : ℕ) where
       let b = walked_begins s.walked h in
       let e = record_here file number b in
       record {
-        entry = entry s.byte (rule_at file s.byte);
+        entry = entry s.byte (decoded_rule file s.byte);
         here = b.here;
         stretch = sym e;
         whole = rw (← e) (bytes_length file s.byte b.inside ∙ sym (size_here file s.byte b.inside));

@@ -1,5 +1,5 @@
 -- The rules of a file that is not refused pass the table's checks. Assumes nothing.
-use mathlib.Core.Path.{◌≡◌, refl, sym, ap, ◌∙◌}
+use mathlib.Core.Path.{◌≡◌, refl, sym, ap, subst, ◌∙◌}
 use mathlib.Core.Bool.{Bool, true, false, cond}
 use mathlib.Core.List.{List, [], ◌∷◌, map}
 use Prim.Native.Nat.{ℕ, zero, suc, ◌+◌, ◌≤◌}
@@ -17,8 +17,8 @@ use Rattle.derivation.proofs.Checks.{Passes, answer_not, passed, accepting, in_t
 use Rattle.maxatom.proofs.Lists.{each_join}
 use Rattle.bookfile.specs.declared.reading.LatestTime.{LatestTime}
 use Rattle.bookfile.specs.Numbers.{word}
-use Rattle.bookfile.specs.Kinds.{jobs_at, kind_at, size_at}
-use Rattle.bookfile.specs.Reading.{head_checks, record_checks, rule_reply, entry, Entry, before, rules_from, read, latest_of, rules_begin, entries, rules_of_file, minute_of, minutes_from, latest_of_file, book_of_file}
+use Rattle.bookfile.specs.Kinds.{kind_checks, jobs_at, kind_at, size_at}
+use Rattle.bookfile.specs.Reading.{head_checks, record_checks, rule_reply, entry, Placed, before, rules_from, read, latest_records, rules_begin, entries, rules_of_file, minute_of, minutes_from, latest_of_file, book_of_file}
 use Rattle.bookfile.specs.Replies.{file_reply}
 use Rattle.bookfile.specs.Theorems.{ReadAccepted}
 use Rattle.bookfile.proofs.Records.{own_checks}
@@ -27,20 +27,20 @@ use Rattle.bookfile.proofs.Filling.{Good, good_from}
 use Rattle.bookfile.specs.Inner.{Listed}
 use Rattle.bookfile.proofs.Walks.{split, listed, listed_jobs, listed_rules, latest_length}
 
-abbrev rule_of : Entry → Rule
+abbrev rule_of : Placed → Rule
 rule_of e = e.rule
 
 -- the rules that were read pass the checks of a table, and are no more than 1,024
-record Fine (jobs number count : ℕ) (es : List Entry) : Type 0 where
+record Fine (jobs number count : ℕ) (es : List Placed) : Type 0 where
   pass : Each Passes (rule_checks jobs number (map rule_of es))
   few : count + length es ≤ most_rules
 
-fine_none : (jobs number count : ℕ) (es : List Entry) → count ≤ most_rules → answer [] ≡ answer es → Fine jobs number count es
+fine_none : (jobs number count : ℕ) (es : List Placed) → count ≤ most_rules → answer [] ≡ answer es → Fine jobs number count es
 unfolding rule_checks
 fine_none jobs number count [] h e = record { pass = tt; few = omega arith }
-fine_none jobs number count (d ∷ es) h e = absurd (let z : ◌≡◌ {A = List Entry} [] (d ∷ es) = cc in omega (arith, ap length z))
+fine_none jobs number count (d ∷ es) h e = absurd (let z : ◌≡◌ {A = List Placed} [] (d ∷ es) = cc in omega (arith, ap length z))
 
-fine : (most jobs : ℕ) (file : List ℕ) (number count at : ℕ) (es : List Entry) → count ≤ most_rules →
+fine : (most jobs : ℕ) (file : List ℕ) (number count at : ℕ) (es : List Placed) → count ≤ most_rules →
     rules_from most jobs file count at ≡ answer es → Fine jobs number count es
 unfolding rules_from rule_checks record_checks
 fine zero jobs file number count at es h e = absurd (answer_not (sym e))
@@ -48,7 +48,7 @@ fine (suc most) jobs file number count at es h e =
     go (leb (length file) at) (λ others c q. fine most jobs file (number + 1) (count + 1) (at + size_at file at) others c q) e
   where
     go : (t : Bool) →
-        ((others : List Entry) → count + 1 ≤ most_rules → rules_from most jobs file (count + 1) (at + size_at file at) ≡ answer others →
+        ((others : List Placed) → count + 1 ≤ most_rules → rules_from most jobs file (count + 1) (at + size_at file at) ≡ answer others →
         Fine jobs (number + 1) (count + 1) others) →
         cond t (answer []) (before (entry at) (rule_reply jobs file count at) (rules_from most jobs file (count + 1) (at + size_at file at)))
         ≡ answer es → Fine jobs number count es
@@ -56,8 +56,8 @@ fine (suc most) jobs file number count at es h e =
     go false f q =
         let s = split at (rule_reply jobs file count at) (rules_from most jobs file (count + 1) (at + size_at file at)) es q in
         let p = passes jobs file count at s.says_first in
-        let own : Each Passes ((kind_at file at).checks jobs file at) = p.1.1.1.1 in
-        let fields = rw (own_checks file at jobs) at own in
+        let own : Each Passes (kind_checks (kind_at file at) jobs file at) = p.1.1.1.1 in
+        let fields = subst (Each Passes) (own_checks file at jobs) own in
         let r = rule_is jobs file count at s.says_first in
         let n = not_full jobs file count at s.says_first in
         let m = f s.others (omega arith) s.says_more in
@@ -86,7 +86,7 @@ minutes_in found h job (suc jobs) = (h job, minutes_in found h (job + 1) jobs)
 latest_in : (file : List ℕ) → Listed file → Each InTime (latest_of_file file)
 unfolding latest_of_file
 latest_in file l =
-    let times = read (latest_of file) in
+    let times = read (latest_records file) in
     minutes_in times (minute_in (word file 2) [] times (good_from (most_jobs + 1) (word file 2) file [] 4 times l.times)) 0 (word file 2)
 
 not_refused : (file : List ℕ) → Listed file → NotRefused (book_of_file file)

@@ -18,8 +18,8 @@ use Rattle.derivation.proofs.Checks.{answer_not, neither, passed, accepting, ref
 use Rattle.derivation.specs.declared.Counts.{Counts}
 use Rattle.bookfile.specs.declared.reading.LatestTime.{LatestTime}
 use Rattle.bookfile.specs.Numbers.{word}
-use Rattle.bookfile.specs.Kinds.{jobs_at, size_at, rule_at}
-use Rattle.bookfile.specs.Reading.{head_checks, rule_reply, entry, Entry, before, latest_from, rules_from, after, read, end_of, reading, latest_of, rules_begin, rules_of, book_reply, entries, rules_of_file, latest_of_file, minutes_from, place_at, place_of, stretch, record_of}
+use Rattle.bookfile.specs.Kinds.{jobs_at, size_at, decoded_rule}
+use Rattle.bookfile.specs.Reading.{head_checks, rule_reply, entry, Placed, before, latest_from, rules_from, after, read, end_of, reading, latest_records, rules_begin, rules_of, book_reply, entries, rules_of_file, latest_of_file, minutes_from, place_at, place_of, stretch, record_of}
 use Rattle.bookfile.specs.Replies.{counted, file_reply, roomed, read_reply, over, read_rules, read_latest}
 use Rattle.bookfile.specs.Inner.{head_reply, ended, Listed, Begins}
 use Rattle.bookfile.proofs.Rules.{looks, from_record, from_end, next, in_file, not_full, rule_is}
@@ -85,7 +85,7 @@ module _ (file : List ℕ) where
 
 -- a file that is not refused, from its reply
 module _ (file : List ℕ) {counts : Counts} (e : file_reply file ≡ answer counts) where
-  listed_all : (head : Reply (Unit {0})) (times : Reply (List LatestTime)) (rules : Reply (List Entry)) →
+  listed_all : (head : Reply (Unit {0})) (times : Reply (List LatestTime)) (rules : Reply (List Placed)) →
       counted (word file 2) (after head (after times rules)) ≡ answer counts →
       (head ≡ answer tt) × (times ≡ answer (read times)) × (rules ≡ answer (read (after head (after times rules))))
       × (counts ≡ record { jobs = word file 2; rules = length (read (after head (after times rules))) })
@@ -98,11 +98,11 @@ module _ (file : List ℕ) {counts : Counts} (e : file_reply file ≡ answer cou
   pub listed : Listed file
   unfolding file_reply book_reply reading
   listed =
-      let p = listed_all (verdict (head_checks file)) (latest_of file) (rules_of file) e in record { head = p.0; times = p.1; all = p.2 }
+      let p = listed_all (verdict (head_checks file)) (latest_records file) (rules_of file) e in record { head = p.0; times = p.1; all = p.2 }
 
   pub listed_counts : counts ≡ record { jobs = word file 2; rules = length (entries file) }
   unfolding file_reply book_reply reading
-  listed_counts = (listed_all (verdict (head_checks file)) (latest_of file) (rules_of file) e).3
+  listed_counts = (listed_all (verdict (head_checks file)) (latest_records file) (rules_of file) e).3
 
 pub listed_long : (file : List ℕ) → Listed file → 4 ≤ length file
 unfolding head_checks accepts
@@ -116,7 +116,7 @@ pub listed_rules : (file : List ℕ) {counts : Counts} → file_reply file ≡ a
 listed_rules file e = ap (λ (q : Counts). q.rules) (listed_counts file e)
 
 -- a file that is refused has no rules
-no_rules : (jobs : ℕ) (said : Reply (List Entry)) {number place : ℕ} → counted jobs said ≡ refused number place → read said ≡ []
+no_rules : (jobs : ℕ) (said : Reply (List Placed)) {number place : ℕ} → counted jobs said ≡ refused number place → read said ≡ []
 unfolding counted read
 no_rules jobs (refused n p) e = refl
 no_rules jobs (answer es) e = absurd (answer_not e)
@@ -135,14 +135,14 @@ pub walked_none : (file : List ℕ) → Listed file → Walked file (rules_begin
 walked_none file l = record { low = omega arith; few = omega arith; rest = l.all }
 
 -- a rule before others
-pub record Split (at : ℕ) (said : Reply Rule) (more : Reply (List Entry)) (es : List Entry) : Type 0 where
+pub record Split (at : ℕ) (said : Reply Rule) (more : Reply (List Placed)) (es : List Placed) : Type 0 where
   pub first : Rule
-  pub others : List Entry
+  pub others : List Placed
   pub says_first : said ≡ answer first
   pub says_more : more ≡ answer others
   pub is : es ≡ record { at = at; rule = first } ∷ others
 
-pub split : (at : ℕ) (said : Reply Rule) (more : Reply (List Entry)) (es : List Entry) → before (entry at) said more ≡ answer es →
+pub split : (at : ℕ) (said : Reply Rule) (more : Reply (List Placed)) (es : List Placed) → before (entry at) said more ≡ answer es →
     Split at said more es
 unfolding before
 split at (refused number place) more es e = absurd (answer_not (sym e))
@@ -171,7 +171,7 @@ module _ {file : List ℕ} {at i : ℕ} (w : Walked file at i) (h : i < length (
       record {
         here =
             parts.is ∙ ap (λ (r : Rule). record { at = at; rule = r } ∷ parts.others) (rule_is (word file 2) file i at parts.says_first)
-            ∙ ap (λ (es : List Entry). record { at = at; rule = rule_at file at } ∷ es) others_are;
+            ∙ ap (λ (es : List Placed). record { at = at; rule = decoded_rule file at } ∷ es) others_are;
         inside = in_file (word file 2) file i at parts.says_first;
       }
 
@@ -209,7 +209,7 @@ module _ (file : List ℕ) (number : ℕ) where
   unfolding record_of stretch place_of place_at
   record_place = go (drop number (entries file))
     where
-      go : (es : List Entry) →
+      go : (es : List Placed) →
           take ((place_at file es).end - (place_at file es).start) (drop (place_at file es).start file) ≡ stretch file es
       go [] = refl
       go (e ∷ es) = ap (λ (n : ℕ). take n (drop e.at file)) (omega arith)
@@ -241,7 +241,7 @@ minutes_length job (suc jobs) found = ap suc (minutes_length (job + 1) jobs foun
 
 pub latest_length : (file : List ℕ) → length (latest_of_file file) ≡ word file 2
 unfolding latest_of_file
-latest_length file = minutes_length 0 (word file 2) (read (latest_of file))
+latest_length file = minutes_length 0 (word file 2) (read (latest_records file))
 
 module _ (file : List ℕ) (rules : List Rule) (latest : List ℤ) where
   abbrev pub reply_here : Reply Counts
@@ -261,7 +261,7 @@ module _ (file : List ℕ) (rules : List Rule) (latest : List ℤ) where
     unfolding read_rules over lent
     rules_written =
         rw (← f)
-        (ap (λ (n : ℕ). rules_of_file file ++ drop n rules) (listed_rules file e ∙ sym (length-map (entries file) (λ (q : Entry). q.rule))))
+        (ap (λ (n : ℕ). rules_of_file file ++ drop n rules) (listed_rules file e ∙ sym (length-map (entries file) (λ (q : Placed). q.rule))))
 
     pub latest_written : latest_of_file file ++ drop counts.jobs latest ≡ read_latest file rules latest
     unfolding read_latest over lent

@@ -19,7 +19,7 @@ use Rattle.maxatom.proofs.Choose.{cond_yes, cond_no}
 use Rattle.maxatom.proofs.Integers.{up, dn, eq_make, add_parts, neg_parts, one_part, abs_parts, minus_parts, le_make, le_read, lt_make, lt_read, true_lt, lt_true, false_lt, lt_false}
 use Rattle.maxatom.proofs.Signed.{fits_make, fits_read}
 use Rattle.bookfile.specs.Numbers.{word, long, signed, signed16, signed32, unsigned32}
-use Rattle.bookfile.specs.Kinds.{beyond}
+use Rattle.derivation.specs.Refusals.{beyond}
 
 pub signed_low : (half n : ℕ) → n < half → pos n ≡ signed half n
 unfolding signed

@@ -9,8 +9,8 @@ use Rattle.derivation.specs.Replies.{reply_of}
 use Rattle.bookfile.specs.declared.reading.Checked.{Checked}
 use Rattle.bookfile.specs.declared.reading.LatestTime.{LatestTime}
 use Rattle.bookfile.specs.Numbers.{word}
-use Rattle.bookfile.specs.Kinds.{CE, size_at, rule_at}
-use Rattle.bookfile.specs.Reading.{head_checks, entry, read, latest_of, rules_of, entries}
+use Rattle.bookfile.specs.Kinds.{CE, size_at, decoded_rule}
+use Rattle.bookfile.specs.Reading.{head_checks, entry, read, latest_records, rules_of, entries}
 
 -- what is found at a byte: a value, or a fault whose place the byte is
 abbrev pub said_at : {A : Type 0} → ℕ → Result A Fault → Reply A
@@ -37,10 +37,10 @@ checked_reply r = reply_of (λ checked. checked.counts) r
 -- a file that is not refused
 pub record Listed (file : List ℕ) : Type 0 where
   pub head : verdict (head_checks file) ≡ answer tt
-  pub times : latest_of file ≡ answer (read (latest_of file))
+  pub times : latest_records file ≡ answer (read (latest_records file))
   pub all : rules_of file ≡ answer (entries file)
 
 -- the record of a rule begins at a byte, and is in the file
 pub record Begins (file : List ℕ) (number at : ℕ) : Type 0 where
-  pub here : drop number (entries file) ≡ entry at (rule_at file at) ∷ drop (number + 1) (entries file)
+  pub here : drop number (entries file) ≡ entry at (decoded_rule file at) ∷ drop (number + 1) (entries file)
   pub inside : at + size_at file at ≤ length file

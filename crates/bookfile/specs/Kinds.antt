@@ -1,19 +1,14 @@
--- The kinds of records in the file of a book: of each, one after the other here, its mark, its size, what it says and its checks.
-use Rattle.std.specs.Prelude.{Bool, false, cond, ◌||◌, List, [], ◌∷◌, ℕ, ◌+◌, ◌*◌, eqb, leb, ltb, length, ℤ, pos, ◌*ℤ◌}
-use Rattle.std.specs.Int.Signed.{lt_z}
-use Rattle.maxatom.specs.Book.{most_minutes, minus}
+-- The kinds of records in the file of a book. Each has its mark, its size, what it says and its checks.
+use Rattle.std.specs.Prelude.{Bool, false, cond, ◌||◌, List, [], ◌∷◌, map, ℕ, ◌+◌, ◌*◌, eqb, leb, ltb, length, ℤ, pos, ◌*ℤ◌}
+use Rattle.maxatom.specs.Book.{most_minutes}
 use Rattle.maxatom.specs.declared.Rule.{Rule}
-use Rattle.derivation.specs.Refusals.{Check, check, jobs_check, job_outside, latest_outside}
+use Rattle.derivation.specs.Refusals.{Check, check, jobs_check, job_outside, beyond, latest_outside}
 use Rattle.bookfile.specs.Numbers.{word, long, signed16, signed32}
 use Rattle.bookfile.specs.declared.reading.LatestTime.{LatestTime}
 
 -- two weeks: the most hours of an offset without sign
 abbrev pub most_hours : ℕ
 most_hours = 336
-
--- a number is outside −limit to limit
-unfoldable pub beyond : ℕ → ℤ → Bool
-beyond limit n = lt_z n (minus limit) || lt_z (pos limit) n
 
 -- 1: fewer than so many bytes, from the one where a record begins, are in the file
 abbrev pub cut : ℕ → List ℕ → ℕ → Check
@@ -27,8 +22,12 @@ pub record Kind (A : Type 0) : Type 0 where
   pub size : ℕ
   -- what a record of the kind says that begins at a byte of a file
   pub says : List ℕ → ℕ → A
-  -- the kind's own checks of a record, in order, in a book of so many jobs
+  -- the checks of the fields of a record, in order, in a book of so many jobs
   pub checks : ℕ → List ℕ → ℕ → List Check
+
+-- the checks of a record whose mark and place are right: that it is whole, then those of its fields
+abbrev pub kind_checks : {A : Type 0} → Kind A → ℕ → List ℕ → ℕ → List Check
+kind_checks k jobs file at = cut k.size file at ∷ k.checks jobs file at
 
 -- a book's first record: the job count
 unfoldable pub jobs_at : List ℕ → ℕ → ℕ
@@ -39,22 +38,21 @@ BK = record {
   mark = 66 + 256 * 75;
   size = 4;
   says = jobs_at;
-  checks = λ jobs file at. cut 4 file at ∷ jobs_check jobs ∷ [];
+  checks = λ jobs file at. jobs_check jobs ∷ [];
 }
 
 -- a latest time: job, 16 bits unsigned, and minute, 32 bits signed
-unfoldable pub latest_at : List ℕ → ℕ → LatestTime
-latest_at file at = record { job = word file (at + 2); minute = signed32 (long file (at + 4)) }
+unfoldable pub decoded_latest : List ℕ → ℕ → LatestTime
+decoded_latest file at = record { job = word file (at + 2); minute = signed32 (long file (at + 4)) }
 
 abbrev pub CE : Kind LatestTime
 CE = record {
   mark = 67 + 256 * 69;
   size = 8;
-  says = latest_at;
+  says = decoded_latest;
   checks = λ jobs file at.
-      cut 8 file at
-      ∷ check (leb jobs (latest_at file at).job) 6 at
-      ∷ check (latest_outside (latest_at file at).minute) 8 at
+      check (leb jobs (decoded_latest file at).job) 6 at
+      ∷ check (latest_outside (decoded_latest file at).minute) 8 at
       ∷ [];
 }
 
@@ -62,7 +60,7 @@ CE = record {
 unfoldable pub rule_with : List ℕ → ℕ → ℤ → Rule
 rule_with file at k = record { x = word file (at + 2); y = word file (at + 4); z = word file (at + 6); k = k }
 
--- with k in minutes, 32 bits signed
+-- Its offset in minutes: k, 32 bits signed.
 unfoldable pub minutes_at : List ℕ → ℕ → ℤ
 minutes_at file at = signed32 (long file (at + 8))
 
@@ -75,13 +73,12 @@ RU = record {
   size = 12;
   says = minutes_rule;
   checks = λ jobs file at.
-      cut 12 file at
-      ∷ check (job_outside jobs (minutes_rule file at)) 6 at
+      check (job_outside jobs (minutes_rule file at)) 6 at
       ∷ check (beyond most_minutes (minutes_at file at)) 7 at
       ∷ [];
 }
 
--- with hours, 16 bits signed, of which k is 60 times as much
+-- Its offset in hours, 16 bits signed; k is 60 times the hours.
 unfoldable pub hours_at : List ℕ → ℕ → ℤ
 hours_at file at = signed16 (word file (at + 8))
 
@@ -94,15 +91,18 @@ HR = record {
   size = 10;
   says = hours_rule;
   checks = λ jobs file at.
-      cut 10 file at
-      ∷ check (job_outside jobs (hours_rule file at)) 6 at
+      check (job_outside jobs (hours_rule file at)) 6 at
       ∷ check (beyond most_hours (hours_at file at)) 7 at
       ∷ [];
 }
 
--- the marks of rules, and all marks
+-- the kinds of rules' records
+abbrev pub rule_kinds : List (Kind Rule)
+rule_kinds = HR ∷ RU ∷ []
+
+-- their marks, and all marks
 abbrev pub rule_marks : List ℕ
-rule_marks = RU.mark ∷ HR.mark ∷ []
+rule_marks = map (λ (k : Kind Rule). k.mark) rule_kinds
 
 abbrev pub marks : List ℕ
 marks = BK.mark ∷ CE.mark ∷ rule_marks
@@ -112,14 +112,20 @@ unfoldable pub among : ℕ → List ℕ → Bool
 among n [] = false
 among n (m ∷ more) = eqb n m || among n more
 
+-- the first of these kinds with a mark, the last where none has it
+unfoldable pub kind_among : ℕ → List (Kind Rule) → Kind Rule
+kind_among word [] = RU
+kind_among word (k ∷ []) = k
+kind_among word (k ∷ l ∷ more) = cond (eqb word k.mark) k (kind_among word (l ∷ more))
+
 -- the kind of a rule's record, by the mark at a byte
 unfoldable pub kind_at : List ℕ → ℕ → Kind Rule
-kind_at file at = cond (eqb (word file at) HR.mark) HR RU
+kind_at file at = kind_among (word file at) rule_kinds
 
 -- bytes in all of a rule's record
 unfoldable pub size_at : List ℕ → ℕ → ℕ
 size_at file at = (kind_at file at).size
 
 -- the rule of the record that begins at a byte
-unfoldable pub rule_at : List ℕ → ℕ → Rule
-rule_at file at = (kind_at file at).says file at
+unfoldable pub decoded_rule : List ℕ → ℕ → Rule
+decoded_rule file at = (kind_at file at).says file at

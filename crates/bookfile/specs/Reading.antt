@@ -5,7 +5,7 @@ use Rattle.maxatom.specs.Book.{most_jobs, most_rules, Book, book}
 use Rattle.maxatom.specs.declared.Rule.{Rule}
 use Rattle.derivation.specs.Refusals.{Reply, refused, answer, Check, check, reply, verdict}
 use Rattle.bookfile.specs.Numbers.{word}
-use Rattle.bookfile.specs.Kinds.{cut, BK, CE, rule_marks, marks, among, kind_at, size_at, rule_at}
+use Rattle.bookfile.specs.Kinds.{kind_checks, cut, BK, CE, rule_marks, marks, among, kind_at, size_at, decoded_rule}
 use Rattle.bookfile.specs.declared.reading.LatestTime.{LatestTime}
 
 -- the checks of the first record
@@ -14,18 +14,18 @@ head_checks file =
     cut 2 file 0
     ∷ check (not (among (word file 0) marks)) 2 0
     ∷ check (not (eqb (word file 0) BK.mark)) 3 0
-    ∷ BK.checks (BK.says file 0) file 0
+    ∷ kind_checks BK (BK.says file 0) file 0
 
 -- the mark of a latest time stands at a byte
 unfoldable pub latest_here : List ℕ → ℕ → Bool
 latest_here file at = leb (at + 2) (length file) && eqb (word file at) CE.mark
 
 -- The checks of a latest time's record, whose mark and place are right. `again`: its job has a latest time already.
-unfoldable pub latest_checks : ℕ → List ℕ → Bool → ℕ → List Check
-latest_checks jobs file again at = CE.checks jobs file at ++ check again 9 at ∷ []
+unfoldable pub latest_record_checks : ℕ → List ℕ → Bool → ℕ → List Check
+latest_record_checks jobs file again at = kind_checks CE jobs file at ++ check again 9 at ∷ []
 
-unfoldable pub latest_reply : ℕ → List ℕ → Bool → ℕ → Reply LatestTime
-latest_reply jobs file again at = reply (latest_checks jobs file again at) (CE.says file at)
+unfoldable pub latest_record_reply : ℕ → List ℕ → Bool → ℕ → Reply LatestTime
+latest_record_reply jobs file again at = reply (latest_record_checks jobs file again at) (CE.says file at)
 
 -- the checks of a record behind the latest times, `count` rules already read
 unfoldable pub record_checks : ℕ → List ℕ → ℕ → ℕ → List Check
@@ -34,17 +34,17 @@ record_checks jobs file count at =
     ∷ check (not (among (word file at) marks)) 2 at
     ∷ check (not (among (word file at) rule_marks)) 3 at
     ∷ check (leb most_rules count) 5 at
-    ∷ (kind_at file at).checks jobs file at
+    ∷ kind_checks (kind_at file at) jobs file at
 
 unfoldable pub rule_reply : ℕ → List ℕ → ℕ → ℕ → Reply Rule
-rule_reply jobs file count at = reply (record_checks jobs file count at) (rule_at file at)
+rule_reply jobs file count at = reply (record_checks jobs file count at) (decoded_rule file at)
 
 -- a rule, with the byte where its record begins
-pub record Entry : Type 0 where
+pub record Placed : Type 0 where
   pub at : ℕ
   pub rule : Rule
 
-abbrev pub entry : ℕ → Rule → Entry
+abbrev pub entry : ℕ → Rule → Placed
 entry at rule = record { at = at; rule = rule }
 
 -- the first failure ends the reading; what is read is kept before the others
@@ -60,11 +60,11 @@ latest_from zero jobs file given at = refused 9 at
 latest_from (suc most) jobs file given at =
     let job = (CE.says file at).job in
     let rest = latest_from most jobs file (job ∷ given) (at + CE.size) in
-    cond (latest_here file at) (before (λ t. t) (latest_reply jobs file (among job given) at) rest) (answer [])
+    cond (latest_here file at) (before (λ t. t) (latest_record_reply jobs file (among job given) at) rest) (answer [])
 
 -- The rules from byte `at` to the end of the file, with `count` rules already read. The end of the file or a record is looked for at most
 -- `most` times. A reading that comes to no end by then is refused with 5, at the byte where the next record would begin.
-unfoldable pub rules_from : ℕ → ℕ → List ℕ → ℕ → ℕ → Reply (List Entry)
+unfoldable pub rules_from : ℕ → ℕ → List ℕ → ℕ → ℕ → Reply (List Placed)
 rules_from zero jobs file count at = refused 5 at
 rules_from (suc most) jobs file count at =
     let rest = rules_from most jobs file (count + 1) (at + size_at file at) in
@@ -88,30 +88,30 @@ unfoldable pub end_of : Reply (List LatestTime) → ℕ
 end_of latest = BK.size + length (read latest) * CE.size
 
 -- reading a file, with so many looks for latest times and so many for rules
-unfoldable pub reading : ℕ → ℕ → List ℕ → Reply (List Entry)
+unfoldable pub reading : ℕ → ℕ → List ℕ → Reply (List Placed)
 reading times rules file =
     let latest = latest_by times file in
     after (verdict (head_checks file)) (after latest (rules_from rules (word file 2) file 0 (end_of latest)))
 
 -- A book has at most 256 latest times and 1,024 rules. One look more finds what is behind them.
-abbrev pub latest_of : List ℕ → Reply (List LatestTime)
-latest_of file = latest_by (most_jobs + 1) file
+abbrev pub latest_records : List ℕ → Reply (List LatestTime)
+latest_records file = latest_by (most_jobs + 1) file
 
 abbrev pub rules_begin : List ℕ → ℕ
-rules_begin file = end_of (latest_of file)
+rules_begin file = end_of (latest_records file)
 
-abbrev pub rules_of : List ℕ → Reply (List Entry)
+abbrev pub rules_of : List ℕ → Reply (List Placed)
 rules_of file = rules_from (most_rules + 1) (word file 2) file 0 (rules_begin file)
 
-unfoldable pub book_reply : List ℕ → Reply (List Entry)
+unfoldable pub book_reply : List ℕ → Reply (List Placed)
 book_reply file = reading (most_jobs + 1) (most_rules + 1) file
 
 -- the rules of a file, none where it is refused
-abbrev pub entries : List ℕ → List Entry
+abbrev pub entries : List ℕ → List Placed
 entries file = read (book_reply file)
 
 abbrev pub rules_of_file : List ℕ → List Rule
-rules_of_file file = map (λ (e : Entry). e.rule) (entries file)
+rules_of_file file = map (λ (e : Placed). e.rule) (entries file)
 
 -- the minute of a job's record, zero where there is none
 unfoldable pub minute_of : ℕ → List LatestTime → ℤ
@@ -125,14 +125,14 @@ minutes_from job (suc more) times = minute_of job times ∷ minutes_from (job + 
 
 -- the latest time of each job
 unfoldable pub latest_of_file : List ℕ → List ℤ
-latest_of_file file = minutes_from 0 (word file 2) (read (latest_of file))
+latest_of_file file = minutes_from 0 (word file 2) (read (latest_records file))
 
 -- the book of a file
 abbrev pub book_of_file : List ℕ → Book
 book_of_file file = book (word file 2) (latest_of_file file) (rules_of_file file)
 
 -- where the first entry's record stands in the file: from its first byte to the byte after its last; no bytes where there is none
-unfoldable pub place_at : List ℕ → List Entry → Range ℕ
+unfoldable pub place_at : List ℕ → List Placed → Range ℕ
 place_at file [] = record { start = 0; end = 0 }
 place_at file (e ∷ more) = record { start = e.at; end = e.at + size_at file e.at }
 
@@ -140,7 +140,7 @@ unfoldable pub place_of : List ℕ → ℕ → Range ℕ
 place_of file number = place_at file (drop number (entries file))
 
 -- the stretch of the first entry's record
-unfoldable pub stretch : List ℕ → List Entry → List ℕ
+unfoldable pub stretch : List ℕ → List Placed → List ℕ
 stretch file [] = []
 stretch file (e ∷ more) = take (size_at file e.at) (drop e.at file)
 

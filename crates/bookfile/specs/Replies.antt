@@ -4,9 +4,9 @@ use Rattle.maxatom.specs.declared.Rule.{Rule}
 use Rattle.derivation.specs.Refusals.{Reply, refused, answer, Check, check, reply, lent}
 use Rattle.derivation.specs.declared.Counts.{Counts}
 use Rattle.bookfile.specs.Numbers.{word}
-use Rattle.bookfile.specs.Reading.{Entry, book_reply, rules_of_file, latest_of_file}
+use Rattle.bookfile.specs.Reading.{Placed, book_reply, rules_of_file, latest_of_file}
 
-unfoldable pub counted : ℕ → Reply (List Entry) → Reply Counts
+unfoldable pub counted : ℕ → Reply (List Placed) → Reply Counts
 counted jobs (refused number place) = refused number place
 counted jobs (answer entries) = answer (record { jobs = jobs; rules = length entries })
 

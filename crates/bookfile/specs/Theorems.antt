@@ -10,8 +10,8 @@ use Rattle.derivation.specs.Examples.{example_b}
 use Rattle.derivation.specs.declared.Counts.{Counts}
 use Rattle.bookfile.specs.declared.reading.LatestTime.{LatestTime}
 use Rattle.bookfile.specs.Numbers.{word}
-use Rattle.bookfile.specs.Kinds.{BK, CE, among, size_at, rule_at}
-use Rattle.bookfile.specs.Reading.{head_checks, latest_here, latest_checks, record_checks, Entry, rules_from, latest_by, reading, rules_begin, book_reply, entries, latest_of_file, book_of_file, stretch, record_of}
+use Rattle.bookfile.specs.Kinds.{BK, CE, among, size_at, decoded_rule}
+use Rattle.bookfile.specs.Reading.{head_checks, latest_here, latest_record_checks, record_checks, Placed, rules_from, latest_by, reading, rules_begin, book_reply, entries, latest_of_file, book_of_file, stretch, record_of}
 use Rattle.bookfile.specs.Replies.{room_checks, file_reply, read_reply, read_rules, read_latest}
 use Rattle.bookfile.specs.Writing.{plan_bytes, plan_checks, plan_out}
 
@@ -22,7 +22,7 @@ latest_checks_from zero jobs file given at = check true 9 at ∷ []
 latest_checks_from (suc most) jobs file given at =
     let job = (CE.says file at).job in
     let rest = latest_checks_from most jobs file (job ∷ given) (at + CE.size) in
-    cond (latest_here file at) (latest_checks jobs file (among job given) at ++ rest) []
+    cond (latest_here file at) (latest_record_checks jobs file (among job given) at ++ rest) []
 
 -- The checks of the records from byte `at` to the end of the file, one record's behind another's, with `count` rules already read. The end
 -- of the file or a record is looked for at most `most` times. Where no end is found by then, one more check fails, with 5.
@@ -50,7 +50,7 @@ times_at file at zero = []
 times_at file at (suc more) = CE.says file at ∷ times_at file (at + CE.size) more
 
 -- The bytes of these entries' records, one record's behind another's.
-unfoldable pub stretches : List ℕ → List Entry → List ℕ
+unfoldable pub stretches : List ℕ → List Placed → List ℕ
 stretches file [] = []
 stretches file (e ∷ more) = stretch file (e ∷ more) ++ stretches file more
 
@@ -59,7 +59,7 @@ pub record ToTheEnd (file : List ℕ) : Type 0 where
   -- However many looks are allowed, the latest times of a reading that is not refused are those of the records behind the first one,
   pub times : (most : ℕ) (found : List LatestTime) → latest_by most file ≡ answer found → found ≡ times_at file BK.size (length found)
   -- and the records of its rules are all the bytes behind those.
-  pub whole : (most at : ℕ) (found : List Entry) → rules_from most (word file 2) file 0 at ≡ answer found →
+  pub whole : (most at : ℕ) (found : List Placed) → rules_from most (word file 2) file 0 at ≡ answer found →
       stretches file found ≡ drop at file
   -- No refusal comes of the bounds: were more than 257 and 1,025 looks allowed, the same would be said.
   pub same : (more others : ℕ) → reading (most_jobs + 1 + more) (most_rules + 1 + others) file ≡ book_reply file
@@ -89,11 +89,11 @@ PlanDetermines = (s t : List ℤ) → Each (SFits w32) s → Each (SFits w32) t 
 
 -- a rule's record has the bytes from which the reader took the rule, all of them
 pub record TakenFrom (file : List ℕ) (number : ℕ) : Type 0 where
-  pub entry : Entry
+  pub entry : Placed
   pub here : drop number (entries file) ≡ entry ∷ drop (number + 1) (entries file)
   pub stretch : record_of file number ≡ take (size_at file entry.at) (drop entry.at file)
   pub whole : length (record_of file number) ≡ size_at (record_of file number) 0
-  pub decodes : rule_at (record_of file number) 0 ≡ entry.rule
+  pub decodes : decoded_rule (record_of file number) 0 ≡ entry.rule
 
 -- and is empty exactly if the file is refused or holds no such rule (`entries` has no rule of a refused file)
 pub record RecordFacts (file : List ℕ) (number : ℕ) : Type 0 where

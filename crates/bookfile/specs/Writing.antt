@@ -21,9 +21,9 @@ unfoldable pub plan_checks : List ℤ → List ℕ → ℕ → List Check
 plan_checks times out at = jobs_check (length times) ∷ check (ltb (length out) (at + length times * 8)) 21 0 ∷ []
 
 -- bytes before and after are untouched
-unfoldable pub planned : List ℤ → List ℕ → ℕ → List ℕ
-planned times out at = take at out ++ plan_bytes times ++ drop (at + length times * 8) out
+unfoldable pub with_records : List ℤ → List ℕ → ℕ → List ℕ
+with_records times out at = take at out ++ plan_bytes times ++ drop (at + length times * 8) out
 
 -- the output after the plan writer: nothing lent changes where it is refused
 unfoldable pub plan_out : List ℤ → List ℕ → ℕ → List ℕ
-plan_out times out at = lent (verdict (plan_checks times out at)) out (planned times out at)
+plan_out times out at = lent (verdict (plan_checks times out at)) out (with_records times out at)

@@ -3,8 +3,8 @@ ghost use Rattle.std.specs.Prelude.{◌≡◌, false, [], ◌+◌, ◌<◌, ◌�
 ghost use Rattle.maxatom.specs.Book.{most_jobs, most_rules};
 ghost use Rattle.derivation.specs.Replies.{read_of};
 ghost use Rattle.bookfile.specs.Numbers.{word};
-ghost use Rattle.bookfile.specs.Kinds.{HR, latest_at, size_at, rule_at};
-ghost use Rattle.bookfile.specs.Reading.{latest_here, latest_reply, latest_from, rule_reply, rules_from, rules_begin, entries, rules_of_file, latest_of_file, place_of, record_of};
+ghost use Rattle.bookfile.specs.Kinds.{HR, decoded_latest, size_at, decoded_rule};
+ghost use Rattle.bookfile.specs.Reading.{latest_here, latest_record_reply, latest_from, rule_reply, rules_from, rules_begin, entries, rules_of_file, latest_of_file, place_of, record_of};
 ghost use Rattle.bookfile.specs.Replies.{counted, file_reply, read_reply, read_rules, read_latest};
 ghost use Rattle.bookfile.specs.Inner.{said_at, byte_of, head_reply, ended, checked_reply, Listed, Begins};
 
@@ -38,9 +38,9 @@ fn is_latest(file: &[u8], at: usize) -> bool
 }
 
 // The job and the minute of the latest time's record that begins at a byte.
-fn latest_at(file: &[u8], at: usize) -> LatestTime
+fn decoded_latest(file: &[u8], at: usize) -> LatestTime
     requires { at + 8 ≤ length file.now }
-    ensures { result ≡ latest_at file.now at }
+    ensures { result ≡ decoded_latest file.now at }
 {
     LatestTime {
         job: word(file, at + 2),
@@ -57,7 +57,7 @@ fn is_in_hours(file: &[u8], at: usize) -> bool
 }
 
 // Bytes in all of the rule's record that begins at a byte.
-#[tactic(auto, unfolding(crate::specs::Kinds::size_at, crate::specs::Kinds::kind_at))]
+#[tactic(auto, unfolding(crate::specs::Kinds::size_at, crate::specs::Kinds::kind_at, crate::specs::Kinds::kind_among))]
 fn size_at(file: &[u8], at: usize) -> usize
     requires { at + 2 ≤ length file.now }
     ensures { result ≡ size_at file.now at }
@@ -67,9 +67,9 @@ fn size_at(file: &[u8], at: usize) -> usize
 
 // The rule of the record that begins at a byte; with hours, k is 60 times as much.
 #[tactic(auto, using(crate::proofs::Records::size_bounds))]
-pub fn rule_at(file: &[u8], at: usize) -> Rule
+pub fn decoded_rule(file: &[u8], at: usize) -> Rule
     requires { at + size_at file.now at ≤ length file.now }
-    ensures { result ≡ rule_at file.now at }
+    ensures { result ≡ decoded_rule file.now at }
 {
     let k = if is_in_hours(file, at) {
         60 * i32::from(word(file, at + 8).cast_signed())
@@ -96,15 +96,15 @@ pub fn next_record(file: &[u8], at: usize) -> usize
 // The latest time's record that begins at a byte, its mark and place right: its other checks in order. `seen` is true at a job's place where
 // the job has a latest time already.
 #[tactic(auto, using(crate::proofs::Latest::latests))]
-fn read_latest(file: &[u8], jobs: usize, seen: &[bool], at: usize) -> Result<LatestTime, Fault>
+fn latest_record(file: &[u8], jobs: usize, seen: &[bool], at: usize) -> Result<LatestTime, Fault>
     requires at_in_bounds { at ≤ length file.now }
     requires seen_len_bound { jobs ≤ length seen.now }
-    ensures { said_at at result ≡ latest_reply jobs file.now (get_or seen.now (latest_at file.now at).job false) at }
+    ensures { said_at at result ≡ latest_record_reply jobs file.now (get_or seen.now (decoded_latest file.now at).job false) at }
 {
     if file.len() - at < 8 {
         return Err(Fault::FileEnds);
     }
-    let latest = latest_at(file, at);
+    let latest = decoded_latest(file, at);
     let job = usize::from(latest.job);
     if jobs <= job {
         return Err(Fault::JobNumber);
@@ -126,7 +126,7 @@ fn read_record(file: &[u8], jobs: usize, count: usize, at: usize) -> Result<Rule
         return Err(Fault::FileEnds);
     }
     if !Mark::try_from(word(file, at))?.is_rule() {
-        return Err(Fault::BookRecord);
+        return Err(Fault::RecordPlace);
     }
     if 1024 <= count {
         return Err(Fault::RuleCount);
@@ -134,7 +134,7 @@ fn read_record(file: &[u8], jobs: usize, count: usize, at: usize) -> Result<Rule
     if file.len() - at < size_at(file, at) {
         return Err(Fault::FileEnds);
     }
-    let rule = rule_at(file, at);
+    let rule = decoded_rule(file, at);
     check_rule(jobs, rule)?;
     Ok(rule)
 }
@@ -148,7 +148,7 @@ fn check_head(file: &[u8]) -> Result<usize, Fault>
         return Err(Fault::FileEnds);
     }
     if Mark::try_from(word(file, 0))? != Mark::Book {
-        return Err(Fault::BookRecord);
+        return Err(Fault::RecordPlace);
     }
     if file.len() < 4 {
         return Err(Fault::FileEnds);
@@ -171,7 +171,7 @@ fn scan_latest(file: &[u8], jobs: usize) -> Result<usize, Refusal>
     let mut at = 4;
     let mut seen = [false; 256];
     while is_latest(file, at) {
-        match read_latest(file, jobs, &seen, at) {
+        match latest_record(file, jobs, &seen, at) {
             Ok(latest) => seen[usize::from(latest.job)] = true,
             Err(fault) => return Err(Refusal { fault, place: at }),
         }
@@ -269,7 +269,7 @@ fn write_latest(file: &[u8], latest: &mut [i32])
     latest.fill(0);
     let mut at = 4;
     while is_latest(file, at) {
-        let time = latest_at(file, at);
+        let time = decoded_latest(file, at);
         latest[usize::from(time.job)] = time.minute;
         at += 8;
     }
@@ -285,7 +285,7 @@ fn write_rules(file: &[u8], begin: usize, rules: &mut [Rule])
 {
     let mut at = begin;
     for rule in rules.iter_mut() {
-        *rule = rule_at(file, at);
+        *rule = decoded_rule(file, at);
         at = next_record(file, at);
     }
 }

@@ -2,7 +2,7 @@
 ghost use Rattle.std.specs.Prelude.{◌≡◌, ◌+◌, ◌*◌, ◌≤◌, length};
 ghost use Rattle.derivation.specs.Refusals.{verdict};
 ghost use Rattle.derivation.specs.Replies.{outcome_reply};
-ghost use Rattle.bookfile.specs.Writing.{plan_record, plan_checks, planned, plan_out};
+ghost use Rattle.bookfile.specs.Writing.{plan_record, plan_checks, with_records, plan_out};
 
 use derivation::{Fault, Refusal};
 
@@ -20,7 +20,7 @@ fn plan_record(job: u16, time: i32) -> [u8; 8]
 fn write_records(times: &[i32], out: &mut [u8], at: usize)
     requires times_len_bound { length times.now ≤ 256 }
     requires times_in_bounds { at + length times.now * 8 ≤ length out.old }
-    ensures { out.new ≡ planned times.now out.old at }
+    ensures { out.new ≡ with_records times.now out.old at }
 {
     for (job, time) in times.iter().enumerate() {
         let begin = at + job * 8;

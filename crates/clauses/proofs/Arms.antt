@@ -18,7 +18,8 @@ use Rattle.std.specs.Int.{int_max}
 use Rattle.maxatom.specs.Rule.{max_z}
 use Rattle.maxatom.specs.Book.{Each}
 use Rattle.maxatom.specs.declared.Arm.{Arm}
-use Rattle.maxatom.specs.Clauses.{In, here, there, Clause, Assignment, arm_time, greatest, arms_of, arm_at, Keeps}
+use Rattle.maxatom.specs.Clauses.{Clause, Assignment, arm_time, greatest, arms_of, Keeps}
+use Rattle.maxatom.specs.Inner.{In, here, there, arm_at}
 use Rattle.maxatom.proofs.Integers.{le_true, le_make, le_read, lt_true, lt_false, lt_read, eq_make, add_parts, ≤ℤ-trans, by_test, max_left, max_right, max_under}
 use Rattle.maxatom.proofs.Choose.{clash}
 use Rattle.maxatom.proofs.Lists.{each_in, at_in}

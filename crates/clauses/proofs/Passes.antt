@@ -18,7 +18,8 @@ use Rattle.std.proofs.lemmas.List.{map_more, get_or-map, take-map, length-take-l
 use Rattle.std.proofs.lemmas.Nat.Bits.{bit_at-lt, bit_at_or}
 use Rattle.maxatom.specs.Rule.{time_at}
 use Rattle.maxatom.specs.Book.{Each}
-use Rattle.maxatom.specs.Clauses.{Clause, left_of, Keeps, stepped, InJobs}
+use Rattle.maxatom.specs.Clauses.{Clause, left_of, Keeps, stepped}
+use Rattle.maxatom.specs.Inner.{InJobs}
 use Rattle.maxatom.specs.Passes.{done}
 use Rattle.maxatom.proofs.Walks.{walk_keep, walk_lower, walk_few}
 use Rattle.maxatom.proofs.Integers.{le_make, lt_read, lt_true, lt_false}

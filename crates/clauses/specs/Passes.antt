@@ -4,7 +4,8 @@ use Rattle.std.specs.Prelude.{◌≡◌, Bool, false, ◌&&◌, ◌||◌, eqb, p
 use Rattle.maxatom.specs.Rule.{time_at}
 use Rattle.maxatom.specs.Book.{Each}
 use Rattle.maxatom.specs.declared.Arm.{Arm}
-use Rattle.maxatom.specs.Clauses.{In, Clause, arms_of, arm_time, left_of, InJobs}
+use Rattle.maxatom.specs.Clauses.{Clause, arms_of, arm_time, left_of}
+use Rattle.maxatom.specs.Inner.{In, InJobs}
 use Rattle.maxatom.specs.Passes.{Walk}
 use Rattle.clauses.specs.Bits.{HasBlock}
 use Rattle.clauses.specs.declared.passing.Pass.{Pass}

@@ -2,7 +2,8 @@
 ghost use Rattle.std.specs.Prelude.{◌≡◌, List, ℕ, ◌<◌, ◌≤◌, ◌-◌, length, get_or, take, drop};
 ghost use Rattle.maxatom.specs.Rule.{time_at};
 ghost use Rattle.maxatom.specs.declared.Arm.{Arm};
-ghost use Rattle.maxatom.specs.Clauses.{Clause as Meaning, arms_of, arm_at, left_of, clause_of, InJobs};
+ghost use Rattle.maxatom.specs.Clauses.{Clause as Meaning, arms_of, left_of, clause_of};
+ghost use Rattle.maxatom.specs.Inner.{arm_at, InJobs};
 ghost use Rattle.clauses.specs.Passes.{put_arm};
 
 use crate::minutes::plus;

@@ -1,7 +1,8 @@
 // One clause at an assignment.
 ghost use Rattle.std.specs.Prelude.{◌≡◌, Bool, true, length, ℤ};
 ghost use Rattle.maxatom.specs.Rule.{time_at};
-ghost use Rattle.maxatom.specs.Clauses.{kept, InJobs};
+ghost use Rattle.maxatom.specs.Clauses.{kept};
+ghost use Rattle.maxatom.specs.Inner.{InJobs};
 ghost use Rattle.clauses.specs.Passes.{OneReaches, tautology};
 
 use crate::clause::AsClause;

@@ -1,6 +1,7 @@
 // Which components, periods and passes to try: a guess, which needs no proof, since the advance and the lines decide.
 ghost use Rattle.std.specs.Prelude.{◌≡◌, ◌<◌, ◌≤◌, length, map, IfSome};
-ghost use Rattle.maxatom.specs.Clauses.{arms_of, InJobs};
+ghost use Rattle.maxatom.specs.Clauses.{arms_of};
+ghost use Rattle.maxatom.specs.Inner.{InJobs};
 ghost use Rattle.clauses.specs.Passes.{InTimes};
 
 use crate::scratch::blank;

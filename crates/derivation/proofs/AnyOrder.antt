@@ -26,12 +26,12 @@ use Rattle.maxatom.proofs.Rules.{left_same, in_clauses, keeps_all, kept_all, set
 use Rattle.maxatom.proofs.Plans.{plan_unique}
 use Rattle.derivation.specs.Refusals.{Reply, refused, answer, accepts}
 use Rattle.derivation.specs.Step.{State, initial, no_rule, rule_at, below_floor, fits, step_on, Called, step_call}
-use Rattle.derivation.specs.Back.{back_on, differs, unfit, back_call}
-use Rattle.derivation.specs.Play.{Entry, play, end_state, stepped, sum_log, count_steps, took_off}
+use Rattle.derivation.specs.Back.{back_on, slip_differs, tally_short, back_call}
+use Rattle.derivation.specs.Play.{Entry, play, end_state, answered, sum_log, count_steps, took_off}
 use Rattle.derivation.specs.Demands.{Due, Lowered, Unchanged, step_numbers, WithPlan, WithNone, Demand3}
 use Rattle.derivation.specs.TakingBack.{Call, hand, back, done, call, BackDue, Returned, Allowed, Did, call_numbers, is_hand, is_back, TakingBack}
 use Rattle.derivation.proofs.Checks.{neither, neither_from, accepted_iff}
-use Rattle.derivation.proofs.Reached.{Reached, high_test, test_high, floor_low, size_is, sums, View, no_rule_lem, too_low, kept, steps, view, BackView, no_job, differs_lem, unfit_lem, returns, back_view}
+use Rattle.derivation.proofs.Reached.{Reached, high_test, test_high, floor_low, size_is, sums, View, no_rule_lem, too_low, kept, steps, view, BackView, no_job, differs_lem, short_lem, returns, back_view}
 
 pub each_at : (P : Rule → Type 0) (rules : List Rule) (number : ℕ) → number < length rules → Each P rules → P (rule_at rules number)
 each_at P rules number h e = each_place P rules number no_rule h e
@@ -71,18 +71,18 @@ sum_none (e ∷ log) = omega (arith, sum_none log)
 
 -- what is shown of one hand step of the list
 pub record Shown (b : Book) (e : Entry ℕ Slip) : Type 0 where
-  pub exactly : (stepped e ≡ true) ↔ Due b e.asked e.before
-  pub lowered : stepped e ≡ true → Lowered (rule_at b.rules e.asked) e.before.times e.after.times
-  pub others : stepped e ≡ false → Unchanged step_numbers e
-  pub steps_on : e.before.tally.steps + cond (stepped e) 1 0 ≡ e.after.tally.steps + 0
-  pub minutes_on : e.before.tally.minutes + cond (stepped e) (took_off b.rules e) 0 ≡ e.after.tally.minutes + 0
+  pub exactly : (answered e ≡ true) ↔ Due b e.asked e.before
+  pub lowered : answered e ≡ true → Lowered (rule_at b.rules e.asked) e.before.times e.after.times
+  pub others : answered e ≡ false → Unchanged step_numbers e
+  pub steps_on : e.before.tally.steps + cond (answered e) 1 0 ≡ e.after.tally.steps + 0
+  pub minutes_on : e.before.tally.minutes + cond (answered e) (took_off b.rules e) 0 ≡ e.after.tally.minutes + 0
 
 -- and of one call, a hand step or a step back
 pub record ShownCall (b : Book) (e : Entry Call (Unit {0})) : Type 0 where
-  pub exactly : (stepped e ≡ true) ↔ Allowed b e.asked e.before
-  pub did : stepped e ≡ true → Did b e.asked e.before e.after
-  pub others : stepped e ≡ false → Unchanged (call_numbers e.asked) e
-  pub counted : e.before.tally.steps + cond (is_hand e.asked && stepped e) 1 0 ≡ e.after.tally.steps + cond (is_back e.asked && stepped e) 1 0
+  pub exactly : (answered e ≡ true) ↔ Allowed b e.asked e.before
+  pub did : answered e ≡ true → Did b e.asked e.before e.after
+  pub others : answered e ≡ false → Unchanged (call_numbers e.asked) e
+  pub counted : e.before.tally.steps + cond (is_hand e.asked && answered e) 1 0 ≡ e.after.tally.steps + cond (is_back e.asked && answered e) 1 0
 
 done_accepts : {A : Type 0} (said : Reply A) → accepts (done said) ≡ accepts said
 unfolding done accepts
@@ -95,7 +95,7 @@ done_refused e = ap done e
 
 -- a hand step as a call
 as_call : {b : Book} {e : Entry ℕ Slip} → Shown b e → ShownCall b (record { asked = hand e.asked; said = done e.said; before = e.before; after = e.after })
-unfolding stepped is_hand is_back
+unfolding answered is_hand is_back
 as_call {e = e} s =
     let same = done_accepts e.said in
     record {
@@ -143,7 +143,7 @@ module _ {b : Book} (a : Accepted b) where
   -- a refused hand step
   stays : (state : State) (asked number : ℕ) → (Due b asked state → ⊥) → Contains step_numbers number →
       Shown b (record { asked = asked; said = refused number 0; before = state; after = state })
-  unfolding stepped accepts
+  unfolding answered accepts
   stays state asked number not-due own =
       record {
         exactly = ((λ e. clash e refl), (λ due. absurd (not-due due)));
@@ -155,7 +155,7 @@ module _ {b : Book} (a : Accepted b) where
 
   entry : (state : State) (number : ℕ) → Reached b state → (called : Called Slip) → View a state number called →
       Shown b (record { asked = number; said = called.said; before = state; after = called.after }) × Reached b called.after
-  unfolding stepped accepts took_off step_on
+  unfolding answered accepts took_off step_on
   entry state number d called (no_rule_lem h) = (stays state number 24 (λ due. omega (arith, due.of_book)) (0, omega arith, refl), d)
   entry state number d called (too_low h low) = (stays state number 25 (λ due. clash low due.above) (1, omega arith, refl), d)
   entry state number d called (kept h above sat) = (stays state number 26 (λ due. clash sat due.violated) (2, omega arith, refl), d)
@@ -176,7 +176,7 @@ module _ {b : Book} (a : Accepted b) where
   -- a refused step back
   keeps : (state : State) (slip : Slip) (number : ℕ) → (BackDue b slip state → ⊥) → Contains (call_numbers (back slip)) number →
       ShownCall b (record { asked = back slip; said = refused number 0; before = state; after = state })
-  unfolding stepped accepts is_hand is_back
+  unfolding answered accepts is_hand is_back
   keeps state slip number not-due own =
       record {
         exactly = ((λ e. clash e refl), (λ due. absurd (not-due due)));
@@ -212,7 +212,7 @@ module _ {b : Book} (a : Accepted b) where
         (subst (λ (n : ℕ). Derivation (clauses_of b.rules) (floor b) b.latest state.times (state.tally.steps - 1 + 1) n) (rw due.stands (omega (arith, enough)))
         (subst (λ (n : ℕ). Derivation (clauses_of b.rules) (floor b) b.latest state.times n state.tally.minutes) (omega (arith, due.has_step)) d))
         (record { inside = rw a.size due.of_book; later = rw due.stands due.above; not_late = due.not_late })
-        (leb-true _ _ (and_parts _ _ due.fits).1)
+        (leb-true _ _ (and_parts _ _ due.fits_after).1)
 
     returned : Returned slip state (back_on slip state)
     returned =
@@ -225,8 +225,8 @@ module _ {b : Book} (a : Accepted b) where
         }
 
   -- the tests on a slip, as facts
-  due_of : (state : State) (slip : Slip) → slip.job < b.jobs → differs b state slip ≡ false → unfit b state slip ≡ false → BackDue b slip state
-  unfolding differs unfit
+  due_of : (state : State) (slip : Slip) → slip.job < b.jobs → slip_differs b state slip ≡ false → tally_short b state slip ≡ false → BackDue b slip state
+  unfolding slip_differs tally_short
   due_of state slip h d u =
       let (stands, times) = neither _ _ d in
       let (above, late) = neither _ _ times in
@@ -237,24 +237,24 @@ module _ {b : Book} (a : Accepted b) where
         above = le_false _ _ above;
         not_late = lt_false _ _ late;
         has_step = omega (arith, eqb-false _ _ some);
-        fits = not-false _ fit;
+        fits_after = not-false _ fit;
       }
 
-  pub differs_not : (state : State) (slip : Slip) → BackDue b slip state → differs b state slip ≡ false
-  unfolding differs
+  pub differs_not : (state : State) (slip : Slip) → BackDue b slip state → slip_differs b state slip ≡ false
+  unfolding slip_differs
   differs_not state slip due =
       neither_from _ _ (ap not (true_eq _ _ due.stands)) (neither_from _ _ (false_le due.above) (false_lt due.not_late))
 
-  pub unfit_not : (state : State) (slip : Slip) → BackDue b slip state → unfit b state slip ≡ false
-  unfolding unfit
-  unfit_not state slip due = neither_from _ _ (ne_eqb _ _ (λ e. omega (arith, due.has_step, e))) (ap not due.fits)
+  pub short_not : (state : State) (slip : Slip) → BackDue b slip state → tally_short b state slip ≡ false
+  unfolding tally_short
+  short_not state slip due = neither_from _ _ (ne_eqb _ _ (λ e. omega (arith, due.has_step, e))) (ap not due.fits_after)
 
   back_entry : (state : State) (slip : Slip) → Reached b state → (called : Called (Unit {0})) → BackView a state slip called →
       ShownCall b (record { asked = back slip; said = called.said; before = state; after = called.after }) × Reached b called.after
-  unfolding stepped accepts is_hand is_back
+  unfolding answered accepts is_hand is_back
   back_entry state slip d called (no_job h) = (keeps state slip 27 (λ due. omega (arith, due.of_book)) (0, omega arith, refl), d)
   back_entry state slip d called (differs_lem h e) = (keeps state slip 28 (λ due. clash e (differs_not state slip due)) (1, omega arith, refl), d)
-  back_entry state slip d called (unfit_lem h e f) = (keeps state slip 29 (λ due. clash f (unfit_not state slip due)) (2, omega arith, refl), d)
+  back_entry state slip d called (short_lem h e f) = (keeps state slip 29 (λ due. clash f (short_not state slip due)) (2, omega arith, refl), d)
   back_entry state slip d called (returns h e f) =
       let due = due_of state slip h e f in (
         record {
@@ -294,17 +294,17 @@ module _ {b : Book} (a : Accepted b) {state : State} (d : Reached b state) where
   is_plan sat =
       record {
         model = record { size = size_is a d; keeps = sat };
-        early = λ job. under_latest d job;
-        latest = above_models;
+        not_late = λ job. under_latest d job;
+        above_all = above_models;
       }
 
   pub with_plan : (plan : List ℤ) → Plan b plan → WithPlan b plan state.times state.tally.steps
   with_plan plan p =
       let k = keeps_all b.rules plan p.model.keeps in
-      let u = p.early in
+      let u = p.not_late in
       let high = stays_high (setting a) (time_at plan) k u d in
       record {
-        not_below_plan = above_models plan p.model p.early;
+        not_below_plan = above_models plan p.model p.not_late;
         not_below_floor = high_test (floor b) state.times high;
         bound = omega (arith, longest_high (setting a) d high);
         at_bound = λ e. kept_all b.rules state.times (full (setting a) (time_at plan) k u d e);

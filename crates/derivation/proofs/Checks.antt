@@ -16,7 +16,7 @@ use Rattle.maxatom.specs.Accepted.{InBook, InTime, Accepted}
 use Rattle.maxatom.specs.declared.Rule.{Rule}
 use Rattle.maxatom.proofs.Choose.{cond_yes, cond_no, clash}
 use Rattle.maxatom.proofs.Integers.{up, dn, le_read, le_make, lt_false, false_lt, abs_parts, one_part}
-use Rattle.derivation.specs.Refusals.{refused, answer, accepts, Check, reply, verdict, job_outside, offset_outside, rule_checks, table_checks, latest_outside, time_checks, size_check, latest_checks, book_checks, NotRefused, times_checks}
+use Rattle.derivation.specs.Refusals.{refused, answer, accepts, Check, reply, verdict, job_outside, beyond, offset_outside, rule_checks, table_checks, latest_outside, time_checks, size_check, latest_checks, book_checks, NotRefused, times_checks}
 
 abbrev pub Passes : Check → Type 0
 Passes c = c.fails ≡ false
@@ -49,7 +49,7 @@ neither_from false q e f = f
 
 -- a rule's two checks pass exactly for a rule of the book
 pub rule_passes : (jobs : ℕ) (r : Rule) → InBook jobs r → (job_outside jobs r ≡ false) × (offset_outside r ≡ false)
-unfolding job_outside offset_outside
+unfolding job_outside beyond
 rule_passes jobs r b = (
   rw (lt-leb jobs r.x b.first, lt-leb jobs r.y b.second, lt-leb jobs r.z b.third),
   rw (
@@ -59,7 +59,7 @@ rule_passes jobs r b = (
 )
 
 pub rule_in_lem : (jobs : ℕ) (r : Rule) → job_outside jobs r ≡ false → offset_outside r ≡ false → InBook jobs r
-unfolding job_outside offset_outside
+unfolding job_outside beyond
 rule_in_lem jobs r j k =
     let (x, yz) = neither (leb jobs r.x) (leb jobs r.y || leb jobs r.z) j in
     let (y, z) = neither (leb jobs r.y) (leb jobs r.z) yz in

@@ -20,11 +20,10 @@ use Rattle.maxatom.proofs.Derivations.{start, floor_under, longest, stays_high}
 use Rattle.maxatom.proofs.Rules.{keeps_all, setting, smallest_least, zero_smallest, zero_floor, zero_room}
 use Rattle.maxatom.proofs.Signed.{zero_minus}
 use Rattle.maxatom.proofs.Plans.{plan_unique, plan_at_latest}
-use Rattle.derivation.specs.Refusals.{NotRefused}
 use Rattle.derivation.specs.Step.{State, initial}
 use Rattle.derivation.specs.Play.{rounds}
 use Rattle.derivation.specs.Run.{pass_bound, solve}
-use Rattle.derivation.specs.Demands.{StepTells, Demand2, Exact, Fallen, RunFacts, PlanFacts, AtZero}
+use Rattle.derivation.specs.Demands.{Demand2, Exact, Fallen, RunsSo, PlansSo, AtZero}
 use Rattle.derivation.proofs.Checks.{accepted_iff}
 use Rattle.derivation.proofs.Reached.{Reached, high_test, test_high, floor_low}
 use Rattle.derivation.proofs.Slips.{set_back}
@@ -64,6 +63,7 @@ module _ {b : Book} (a : Accepted b) where
               rest = f.rest;
               of_run = f.of_calls;
               one_less = f.one_less;
+              told = f.told;
               put_back = sym (ap (λ (t : List ℤ). set t slip.job slip.before) f.stored ∙ (ap (λ (v : ℤ). set (set before slip.job slip.after) slip.job v) f.before_is ∙ set_back before slip.job slip.after));
             };
       }
@@ -110,28 +110,26 @@ module _ {b : Book} (a : Accepted b) where
 pub demand_2 : Demand2
 demand_2 b passing = exact ((accepted_iff b).0 passing)
 
-module _ {b : Book} (passing : NotRefused b) where
-  a : Accepted b
-  a = (accepted_iff b).0 passing
+pub run_facts : RunsSo
+run_facts b passing =
+    let a = (accepted_iff b).0 passing in
+    record {
+      ends = (bench a).ends (omega arith);
+      plan_steps = λ e. rw (bench a).steps_is at (with_plan a (reached a) _ (plan_is a e)).bound;
+      none_steps = λ slip e. rw (bench a).steps_is at (longest (setting a) (reached a));
+      fallen = fallen a;
+      times_are = (bench a).times_is;
+      same_steps = (bench a).steps_is;
+    }
 
-  pub run_facts : RunFacts b
-  run_facts =
-      record {
-        ends = (bench a).ends (omega arith);
-        plan_steps = λ e. rw (bench a).steps_is at (with_plan a (reached a) _ (plan_is a e)).bound;
-        none_steps = λ slip e. rw (bench a).steps_is at (longest (setting a) (reached a));
-        fallen = fallen a;
-        times_are = (bench a).times_is;
-        same_steps = (bench a).steps_is;
-      }
-
-  pub plan_facts : PlanFacts b
-  plan_facts =
-      record {
-        plan_iff_model = ((λ w. (w.0, w.1.model)), (λ s. ((solve b).times, plan_is a ((exact a).plan_iff.1 s))));
-        unique = λ p q x y. plan_unique x y;
-        at_latest = λ p x. plan_at_latest a x;
-      }
+pub plan_facts : PlansSo
+plan_facts b passing =
+    let a = (accepted_iff b).0 passing in
+    record {
+      plan_iff_model = ((λ w. (w.0, w.1.model)), (λ s. ((solve b).times, plan_is a ((exact a).plan_iff.1 s))));
+      unique = λ p q x y. plan_unique x y;
+      at_latest = λ p x. plan_at_latest a x;
+    }
 
 -- document 01's base, from the definitions with latest times
 pub at_zero : (jobs : ℕ) (rules : List Rule) → AtZero jobs rules

@@ -25,6 +25,7 @@ use Rattle.maxatom.proofs.Integers.{le_read, lt_read, lt_true, lt_false, by_test
 use Rattle.maxatom.proofs.Lists.{set_time}
 use Rattle.maxatom.proofs.Derivations.{longest_high}
 use Rattle.maxatom.proofs.Rules.{left_same, setting}
+use Rattle.derivation.specs.Refusals.{answer}
 use Rattle.derivation.specs.Step.{State, rule_at, below_floor, slip_of, step_on, Called, step_call}
 use Rattle.derivation.specs.Play.{play, end_state, up_from, rounds}
 use Rattle.derivation.specs.Run.{pass_bound}
@@ -49,6 +50,14 @@ module _ {b : Book} (a : Accepted b) where
   after_step (too_low h low) i b s = clash low b
   after_step (kept h above sat) i b s = clash sat s
   after_step (steps h above violated) i b s = refl
+
+  said_step : {state : State} {number : ℕ} {called : Called Slip} → View a state number called → number < length b.rules →
+      below_floor (floor b) state.times ≡ false → satisfied (rule_at b.rules number) state.times ≡ false →
+      called.said ≡ answer (slip_of (rule_at b.rules number) state.times)
+  said_step (no_rule_lem h) i b s = absurd (omega arith)
+  said_step (too_low h low) i b s = clash low b
+  said_step (kept h above sat) i b s = clash sat s
+  said_step (steps h above violated) i b s = refl
 
   after_stay : {state : State} {number : ℕ} {called : Called Slip} → View a state number called →
       (number < length b.rules → below_floor (floor b) state.times ≡ false → satisfied (rule_at b.rules number) state.times ≡ false → ⊥) →
@@ -123,6 +132,7 @@ pub record Falls (b : Book) (state : State) (calls : List ℕ) (times : List ℤ
   pub of_calls : calls ≡ earlier ++ number ∷ rest
   pub high : below_floor (floor b) (run_through b state earlier).times ≡ false
   pub one_less : (run_through b state earlier).tally.steps + 1 ≡ steps
+  pub told : (step_call b (run_through b state earlier) number).said ≡ answer slip
   pub of_book : slip.job < b.jobs
   pub size : length (run_through b state earlier).times ≡ b.jobs
   pub before_is : slip.before ≡ time_at (run_through b state earlier).times slip.job
@@ -141,6 +151,7 @@ module _ {b : Book} {state : State} {calls : List ℕ} {times : List ℤ} {steps
         of_calls = ap (λ (l : List ℕ). first ++ l) f.of_calls ∙ sym (append_assoc first f.earlier (f.number ∷ f.rest));
         high = rw joined f.high;
         one_less = rw joined f.one_less;
+        told = ap (λ (s : State). (step_call b s f.number).said) joined ∙ f.told;
         of_book = f.of_book;
         size = rw joined f.size;
         before_is = rw joined f.before_is;
@@ -157,6 +168,7 @@ module _ {b : Book} {state : State} {calls : List ℕ} {times : List ℤ} {steps
         of_calls = ap (λ (l : List ℕ). l ++ more) f.of_calls ∙ append_assoc f.earlier (f.number ∷ f.rest) more;
         high = f.high;
         one_less = f.one_less;
+        told = f.told;
         of_book = f.of_book;
         size = f.size;
         before_is = f.before_is;
@@ -243,6 +255,7 @@ module _ {b : Book} (a : Accepted b) where
                   of_calls = refl;
                   high = above;
                   one_less = refl;
+                  told = rw at at (said_step a (view a state i d) h above violated);
                   of_book = rw at at (each_at (InBook b.jobs) b.rules i h a.rules_in).third;
                   size = size_is a d;
                   before_is = refl;

@@ -26,7 +26,7 @@ use Rattle.maxatom.proofs.Derivations.{Derivation, same_length, under_latest, fe
 use Rattle.maxatom.proofs.Rules.{smallest_least, smallest_holds, floor_parts, weighed, setting}
 use Rattle.derivation.specs.Refusals.{Reply, refused, answer, Check, reply, verdict, lent, times_checks}
 use Rattle.derivation.specs.Step.{State, rule_at, lowest, in_range, below_floor, sum_z, fits, rule_step_checks, state_checks, step_checks, slip_of, step_on, Called, called_by, step_call}
-use Rattle.derivation.specs.Back.{back_on, differs, unfit, slip_checks, back_checks, back_call}
+use Rattle.derivation.specs.Back.{back_on, slip_differs, tally_short, slip_checks, back_checks, back_call}
 use Rattle.derivation.proofs.Checks.{Passes, neither_from, says, skips, skips_all, refused_append, times_pass}
 
 abbrev pub Reached : Book → State → Type 0
@@ -171,20 +171,20 @@ module _ {b : Book} (a : Accepted b) where
     -- the four things that a step back does
     pub data BackView : Called (Unit {0}) → Type 0 where
       no_job : b.jobs ≤ slip.job → BackView (record { said = refused 27 0; after = state })
-      differs_lem : slip.job < b.jobs → differs b state slip ≡ true → BackView (record { said = refused 28 0; after = state })
-      unfit_lem : slip.job < b.jobs → differs b state slip ≡ false → unfit b state slip ≡ true → BackView (record { said = refused 29 0; after = state })
-      returns : slip.job < b.jobs → differs b state slip ≡ false → unfit b state slip ≡ false → BackView (record { said = answer tt; after = back_on slip state })
+      differs_lem : slip.job < b.jobs → slip_differs b state slip ≡ true → BackView (record { said = refused 28 0; after = state })
+      short_lem : slip.job < b.jobs → slip_differs b state slip ≡ false → tally_short b state slip ≡ true → BackView (record { said = refused 29 0; after = state })
+      returns : slip.job < b.jobs → slip_differs b state slip ≡ false → tally_short b state slip ≡ false → BackView (record { said = answer tt; after = back_on slip state })
 
     pub back_view : Reached b state → BackView (back_call b state slip)
-    back_view d = go (leb b.jobs slip.job) (differs b state slip) (unfit b state slip) refl refl refl
+    back_view d = go (leb b.jobs slip.job) (slip_differs b state slip) (tally_short b state slip) refl refl refl
       where
         by : (called : Called (Unit {0})) → called_by (slip_checks b state slip) tt state (back_on slip state) ≡ called → BackView called → BackView (back_call b state slip)
         by called e v = subst BackView (sym (back_is d slip ∙ e)) v
 
-        go : (p q r : Bool) → leb b.jobs slip.job ≡ p → differs b state slip ≡ q → unfit b state slip ≡ r → BackView (back_call b state slip)
+        go : (p q r : Bool) → leb b.jobs slip.job ≡ p → slip_differs b state slip ≡ q → tally_short b state slip ≡ r → BackView (back_call b state slip)
         go true q r e f g = by _ (call_says _ _ _ _ _ e) (no_job (leb-true b.jobs slip.job e))
         go false true r e f g = by _ (call_skips _ _ _ _ _ e ∙ call_says _ _ _ _ _ f) (differs_lem (leb-false b.jobs slip.job e) f)
         go false false true e f g =
-            by _ (call_skips _ _ _ _ _ e ∙ (call_skips _ _ _ _ _ f ∙ call_says _ _ _ _ _ g)) (unfit_lem (leb-false b.jobs slip.job e) f g)
+            by _ (call_skips _ _ _ _ _ e ∙ (call_skips _ _ _ _ _ f ∙ call_says _ _ _ _ _ g)) (short_lem (leb-false b.jobs slip.job e) f g)
         go false false false e f g =
             by _ (call_skips _ _ _ _ _ e ∙ (call_skips _ _ _ _ _ f ∙ (call_skips _ _ _ _ _ g ∙ call_done _ _ _))) (returns (leb-false b.jobs slip.job e) f g)

@@ -38,10 +38,10 @@ module _ (b : Book) (buffer : List ℤ) where
       (ap answer s.said ∙ sym q, s.left ∙ sym (lent_by q))
 
   -- an answer is the run's, of a book that is not refused, and the times are those that the run left
-  pub answered : (w : Answer) → run_reply b buffer ≡ answer w →
+  pub run_answer : (w : Answer) → run_reply b buffer ≡ answer w →
       NotRefused b × (answer_of (solve b) ≡ w) × (run_times b buffer ≡ (solve b).times)
   unfolding run_reply accepts lent
-  answered w e =
+  run_answer w e =
       let whole = accepting (times_checks b buffer) (answer_of (solve b)) (passed (times_checks b buffer) (answer_of (solve b)) (ap accepts e)) in
       ((accepted_iff b).1 (times_accepted (answer_of (solve b)) b buffer whole).0, answer_is (sym whole ∙ e), lent_by whole)
 
@@ -50,13 +50,13 @@ module _ (b : Book) (buffer : List ℤ) where
   means r t said left =
       record {
         plan = λ n x.
-            let (passing, w, q) = answered _ (sym said ∙ ap solved_reply x) in
+            let (passing, w, q) = run_answer _ (sym said ∙ ap solved_reply x) in
             let end : (solve b).end ≡ planned = ap (λ (v : Answer). v.end) w in
-            (rw (left, q) ((demand_2 b passing).plan_is end), rw (ap (λ (v : Answer). v.steps) w) at ((run_facts passing).plan_steps end));
+            (rw (left, q) ((demand_2 b passing).plan_is end), rw (ap (λ (v : Answer). v.steps) w) at ((run_facts b passing).plan_steps end));
         none = λ n slip x.
-            let (passing, w, q) = answered _ (sym said ∙ ap solved_reply x) in
+            let (passing, w, q) = run_answer _ (sym said ∙ ap solved_reply x) in
             let end : (solve b).end ≡ fell slip = ap (λ (v : Answer). v.end) w in
-            ((demand_2 b passing).none_iff.0 (slip, end), rw (ap (λ (v : Answer). v.steps) w) at ((run_facts passing).none_steps slip end));
+            ((demand_2 b passing).none_iff.0 (slip, end), rw (ap (λ (v : Answer). v.steps) w) at ((run_facts b passing).none_steps slip end));
       }
 
   by_equations : (r : Result Solved Refusal) (t : List ℤ) → (solved_reply r ≡ run_reply b buffer) × (t ≡ run_times b buffer) → SolvedCall b buffer r t

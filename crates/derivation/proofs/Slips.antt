@@ -23,13 +23,13 @@ use Rattle.maxatom.proofs.Derivations.{start, step, not_far}
 use Rattle.maxatom.proofs.Rules.{left_same, in_clauses, weighed, floor_parts}
 use Rattle.derivation.specs.Refusals.{Reply, answer, accepts, lent, times_checks}
 use Rattle.derivation.specs.Step.{State, no_rule, rule_at, lowest, in_range, below_floor, sum_z, fits, state_checks, step_checks, slip_of, step_on, called_by, step_call}
-use Rattle.derivation.specs.Back.{back_on, differs, unfit, back_checks, back_call}
+use Rattle.derivation.specs.Back.{back_on, slip_differs, tally_short, back_checks, back_call}
 use Rattle.derivation.specs.declared.Tally.{Tally}
 use Rattle.derivation.specs.Demands.{Told, StepTells}
 use Rattle.derivation.specs.TakingBack.{BackDue, Restores}
 use Rattle.derivation.proofs.Checks.{Passes, each_left, passed, accepting, times_pass, times_all_pass}
 use Rattle.derivation.proofs.Reached.{test_high, floor_low, sum_parts, lowest_parts, call_passes, call_skips, call_done}
-use Rattle.derivation.proofs.AnyOrder.{each_at, broken, differs_not, unfit_not}
+use Rattle.derivation.proofs.AnyOrder.{each_at, broken, differs_not, short_not}
 
 pub answer_is : {A : Type 0} {v w : A} → answer v ≡ answer w → v ≡ w
 answer_is e = cc
@@ -52,9 +52,9 @@ record Answered (b : Book) (state : State) (number : ℕ) (slip : Slip) : Type 0
   told : slip ≡ slip_of (rule_at b.rules number) state.times
   left : (step_call b state number).after ≡ step_on (rule_at b.rules number) state
 
-answered : (b : Book) (state : State) (number : ℕ) (slip : Slip) → (step_call b state number).said ≡ answer slip → Answered b state number slip
+seen : (b : Book) (state : State) (number : ℕ) (slip : Slip) → (step_call b state number).said ≡ answer slip → Answered b state number slip
 unfolding step_call called_by step_checks state_checks accepts lent
-answered b state number slip e =
+seen b state number slip e =
     let r = rule_at b.rules number in
     let told = slip_of r state.times in
     let p = passed (step_checks b state number) told (ap accepts e) in
@@ -191,7 +191,7 @@ module _ (b : Book) (state : State) (number : ℕ) (slip : Slip) (s : Answered b
         above = s.violated;
         not_late = (range_at (lowest b) b.latest state.times (s.size ∙ sym s.accepted.size) s.range r.z inside).1;
         has_step = omega arith;
-        fits = subst (λ (t : State). fits b.latest t.tally t.times ≡ true) (sym put_back) s.fit;
+        fits_after = subst (λ (t : State). fits b.latest t.tally t.times ≡ true) (sym put_back) s.fit;
       }
 
   gives_back : back_call b next (slip_of r state.times) ≡ record { said = answer tt; after = state }
@@ -201,14 +201,14 @@ module _ (b : Book) (state : State) (number : ℕ) (slip : Slip) (s : Answered b
       call_passes (state_checks b next) _ _ _ _ next_passes
       ∙ (call_skips _ _ _ _ _ (lt-leb b.jobs r.z due.of_book)
       ∙ (call_skips _ _ _ _ _ (differs_not s.accepted next told due)
-      ∙ (call_skips _ _ _ _ _ (unfit_not s.accepted next told due)
+      ∙ (call_skips _ _ _ _ _ (short_not s.accepted next told due)
       ∙ (call_done _ _ _ ∙ ap (λ (t : State). record { said = answer tt; after = t }) put_back))))
 
 pub step_tells : StepTells
-step_tells b state number slip e = tells b state number slip (answered b state number slip e)
+step_tells b state number slip e = tells b state number slip (seen b state number slip e)
 
 pub restores : Restores
 restores b state number slip e =
-    let s = answered b state number slip e in
+    let s = seen b state number slip e in
     ap (λ (t : State). back_call b t slip) s.left
     ∙ (ap (λ (t : Slip). back_call b (step_on (rule_at b.rules number) state) t) s.told ∙ gives_back b state number slip s)

@@ -16,23 +16,23 @@ back_on slip state =
     }
 
 -- 28: the job isn't at the slip's time after, or the time before isn't above that or passes the job's latest
-unfoldable pub differs : Book → State → Slip → Bool
-differs b state slip =
+unfoldable pub slip_differs : Book → State → Slip → Bool
+slip_differs b state slip =
     not (eq_z (time_at state.times slip.job) slip.after) || (le_z slip.before slip.after || lt_z (time_at b.latest slip.job) slip.before)
 
 -- 29: the tally has no step, or would no longer fit
-unfoldable pub unfit : Book → State → Slip → Bool
-unfit b state slip = eqb state.tally.steps 0 || not (fits b.latest (back_on slip state).tally (back_on slip state).times)
+unfoldable pub tally_short : Book → State → Slip → Bool
+tally_short b state slip = eqb state.tally.steps 0 || not (fits b.latest (back_on slip state).tally (back_on slip state).times)
 
 -- the refusals of a step back for its slip; 27: the slip's job isn't in the book
 abbrev pub slip_checks : Book → State → Slip → List Check
 slip_checks b state slip =
     check (leb b.jobs slip.job) 27 0
-    ∷ check (differs b state slip) 28 0
-    ∷ check (unfit b state slip) 29 0
+    ∷ check (slip_differs b state slip) 28 0
+    ∷ check (tally_short b state slip) 29 0
     ∷ []
 
--- the table, the board and the tally are checked first
+-- the table, the latest times, the board and the tally are checked first
 unfoldable pub back_checks : Book → State → Slip → List Check
 back_checks b state slip = state_checks b state ++ slip_checks b state slip
 

@@ -8,10 +8,10 @@ use Rattle.maxatom.specs.declared.Slip.{Slip}
 use Rattle.maxatom.specs.Runs.{planned, fell, unfinished}
 use Rattle.derivation.specs.Refusals.{refused, answer, NotRefused}
 use Rattle.derivation.specs.Step.{State, initial, rule_at, lowest, below_floor, step_call}
-use Rattle.derivation.specs.Play.{Entry, play, end_state, stepped, count_steps, sum_minutes, rounds}
+use Rattle.derivation.specs.Play.{Entry, play, end_state, answered, count_steps, sum_minutes, rounds}
 use Rattle.derivation.specs.Run.{step_bound, pass_bound, solve}
 
--- Demand 3. "which calls stepped": it named a rule of the book, broken just then, while no job stood below the floor
+-- Demand 3. A call "that named a rule of the book, broken just then, while no job stood below the floor"
 pub record Due (b : Book) (number : ℕ) (before : State) : Type 0 where
   pub of_book : number < length b.rules
   pub violated : satisfied (rule_at b.rules number) before.times ≡ false
@@ -67,9 +67,9 @@ abbrev pub finally : Book → List ℕ → State
 finally b calls = end_state (initial b) (log_of b calls)
 
 pub record AnyOrder (b : Book) (calls : List ℕ) : Type 0 where
-  pub exactly : Each (λ e. (stepped e ≡ true) ↔ Due b e.asked e.before) (log_of b calls)
-  pub lowered : Each (λ e. stepped e ≡ true → Lowered (rule_at b.rules e.asked) e.before.times e.after.times) (log_of b calls)
-  pub others : Each (λ e. stepped e ≡ false → Unchanged step_numbers e) (log_of b calls)
+  pub exactly : Each (λ e. (answered e ≡ true) ↔ Due b e.asked e.before) (log_of b calls)
+  pub lowered : Each (λ e. answered e ≡ true → Lowered (rule_at b.rules e.asked) e.before.times e.after.times) (log_of b calls)
+  pub others : Each (λ e. answered e ≡ false → Unchanged step_numbers e) (log_of b calls)
   pub steps : (finally b calls).tally.steps ≡ count_steps (log_of b calls)
   pub minutes : (finally b calls).tally.minutes ≡ sum_minutes b.rules (log_of b calls)
   pub with_plan : (plan : List ℤ) → Plan b plan → WithPlan b plan (finally b calls).times (count_steps (log_of b calls))
@@ -99,9 +99,10 @@ pub record LastStep (b : Book) (slip : Slip) : Type 0 where
   pub rest : List ℕ
   pub of_run : run_list b ≡ calls ++ number ∷ rest
   pub one_less : (finally b calls).tally.steps + 1 ≡ (solve b).steps
+  pub told : (step_call b (finally b calls) number).said ≡ answer slip
   pub put_back : (finally b calls).times ≡ set (solve b).times slip.job slip.before
 
--- what the slip of a run for none says: the job stands at its time after, which is the first to be below the floor
+-- what the slip of a run for none says: the job stands at its time after, which is below the floor, and its time before is not
 pub record Fallen (b : Book) (slip : Slip) : Type 0 where
   pub of_book : slip.job < b.jobs
   pub stands : time_at (solve b).times slip.job ≡ slip.after
@@ -118,11 +119,19 @@ pub record RunFacts (b : Book) : Type 0 where
   pub times_are : (finally b (run_list b)).times ≡ (solve b).times
   pub same_steps : (finally b (run_list b)).tally.steps ≡ (solve b).steps
 
+-- the bench run of any book that isn't refused
+abbrev pub RunsSo : Type 0
+RunsSo = (b : Book) → NotRefused b → RunFacts b
+
 -- what the documents say of plans
 pub record PlanFacts (b : Book) : Type 0 where
   pub plan_iff_model : ((plan : List ℤ) × Plan b plan) ↔ Satisfiable b
   pub unique : (p q : List ℤ) → Plan b p → Plan b q → p ≡ q
   pub at_latest : (plan : List ℤ) → Plan b plan → (job : ℕ) × (job < b.jobs) × (time_at plan job ≡ time_at b.latest job)
+
+-- the plans of any book that isn't refused
+abbrev pub PlansSo : Type 0
+PlansSo = (b : Book) → NotRefused b → PlanFacts b
 
 -- what document 01 has of a book in which every latest time is zero: the floor −K, legal times from −2K to 0, and the bound n × K
 pub record AtZero (jobs : ℕ) (rules : List Rule) : Type 0 where

@@ -2,18 +2,19 @@
 use Rattle.std.specs.Prelude.{Bool, true, false, ◌&&◌, List, [], ◌∷◌, ℕ, eqb, ℤ, pos}
 use Rattle.std.specs.Bool.{beq}
 use Rattle.maxatom.specs.Rule.{satisfied, tight, eq_z}
-use Rattle.maxatom.specs.Class.{class_of}
+use Rattle.maxatom.specs.Class.{class_of, number_of_class}
 use Rattle.maxatom.specs.Book.{Book, book, zeros, total, minus}
 use Rattle.maxatom.specs.Runs.{End, planned, fell, unfinished}
 use Rattle.maxatom.specs.declared.Rule.{Rule}
 use Rattle.maxatom.specs.declared.Slip.{Slip}
 use Rattle.maxatom.specs.declared.Class.{Class}
-use Rattle.maxatom.specs.declared.Class.TheVariants.{Tautology, Contradiction, Difference, Disjunctive}
-use Rattle.derivation.specs.Refusals.{Reply, refused, answer}
+use Rattle.maxatom.specs.declared.Class.TheVariants.{Tautology, Difference}
+use Rattle.derivation.specs.Refusals.{Reply, refused, answer, accepts}
 use Rattle.derivation.specs.Step.{State, rule_at, step_call}
+use Rattle.derivation.specs.Back.{back_call}
 use Rattle.derivation.specs.Run.{solve}
 
--- what the paper says of a book
+-- what is claimed of a book
 pub data Claim : Type 0 where
   plan_said : List ℤ → Claim
   none_said : Claim
@@ -23,6 +24,7 @@ pub data Claim : Type 0 where
   class_is : ℕ → Class → Claim
   tight_is : ℕ → List ℤ → Bool → Claim
   step_leaves : State → ℕ → Slip → State → Claim
+  back_leaves : State → Slip → State → Claim
   satisfied_is : ℕ → List ℤ → Bool → Claim
 
 pub record Example : Type 0 where
@@ -59,7 +61,7 @@ stars =
     ∷ record { book = zeros 2 (rule 0 0 (minus 1) 1 ∷ rule 1 1 (pos 1) 0 ∷ []); claims = plan_said (pos 0 ∷ minus 1 ∷ []) ∷ steps_are 1 ∷ [] }
     ∷ record {
       book = zeros 2 (rule 0 1 (minus 1) 0 ∷ rule 0 0 (minus 3) 1 ∷ []);
-      claims = step_leaves (state (pos 0 ∷ minus 3 ∷ []) 1 3) 0 (slip 0 (pos 0) (minus 1)) (state (minus 1 ∷ minus 3 ∷ []) 2 4) ∷ satisfied_is 0 (minus 1 ∷ minus 3 ∷ []) false ∷ [];
+      claims = step_leaves (state (pos 0 ∷ minus 3 ∷ []) 1 3) 0 (slip 0 (pos 0) (minus 1)) (state (minus 1 ∷ minus 3 ∷ []) 2 4) ∷ back_leaves (state (minus 1 ∷ minus 3 ∷ []) 2 4) (slip 0 (pos 0) (minus 1)) (state (pos 0 ∷ minus 3 ∷ []) 1 3) ∷ satisfied_is 0 (minus 1 ∷ minus 3 ∷ []) false ∷ [];
     }
     ∷ record {
       book = book 2 (minus 3 ∷ minus 5 ∷ []) (rule 0 0 (minus 4) 1 ∷ []);
@@ -102,11 +104,8 @@ is_fall planned = false
 is_fall (fell j) = true
 is_fall unfinished = false
 
-unfoldable pub class_number : Class → ℕ
-class_number Tautology = 0
-class_number Contradiction = 1
-class_number Difference = 2
-class_number Disjunctive = 3
+unfoldable pub same_state : State → State → Bool
+same_state s t = same_times s.times t.times && eqb s.tally.steps t.tally.steps && eqb s.tally.minutes t.tally.minutes
 
 unfoldable pub holds : Book → Claim → Bool
 holds b (plan_said times) = let run = solve b in same_end run.end planned && same_times run.times times
@@ -114,12 +113,12 @@ holds b none_said = is_fall (solve b).end
 holds b (none_at last) = same_end (solve b).end (fell last)
 holds b (steps_are n) = eqb (solve b).steps n
 holds b (total_is n) = eqb (total b.rules) n
-holds b (class_is number c) = eqb (class_number (class_of (rule_at b.rules number))) (class_number c)
+holds b (class_is number c) = eqb (number_of_class (class_of (rule_at b.rules number))) (number_of_class c)
 holds b (tight_is number times said) = beq (tight (rule_at b.rules number) times) said
 holds b (step_leaves before number took after) =
     let called = step_call b before number in
-    says_slip called.said took && same_times called.after.times after.times
-    && eqb called.after.tally.steps after.tally.steps && eqb called.after.tally.minutes after.tally.minutes
+    says_slip called.said took && same_state called.after after
+holds b (back_leaves before took after) = let called = back_call b before took in accepts called.said && same_state called.after after
 holds b (satisfied_is number times said) = beq (satisfied (rule_at b.rules number) times) said
 
 unfoldable pub all_hold : Book → List Claim → Bool

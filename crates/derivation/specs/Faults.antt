@@ -1,13 +1,13 @@
 -- The number of each refusal, as the two lists of refusals have it.
 use Rattle.std.specs.Prelude.{ℕ}
 use Rattle.derivation.specs.declared.Fault.{Fault}
-use Rattle.derivation.specs.declared.Fault.TheVariants.{FileEnds, UnknownMark, BookRecord, JobCount, RuleCount, JobNumber, Offset, LatestTime, SecondLatest, Length, IllegalBoard, TallyDiffers, NoSuchRule, ShowsNone, Satisfied, NoSuchJob, SlipDiffers, TallyShort}
+use Rattle.derivation.specs.declared.Fault.TheVariants.{FileEnds, UnknownMark, RecordPlace, JobCount, RuleCount, JobNumber, Offset, LatestTime, SecondLatest, Length, IllegalBoard, TallyDiffers, NoSuchRule, ShowsNone, Satisfied, NoSuchJob, SlipDiffers, TallyShort}
 use Rattle.derivation.specs.declared.Refusal.{Refusal}
 
 abbrev pub number_of : Fault → ℕ
 number_of FileEnds = 1
 number_of UnknownMark = 2
-number_of BookRecord = 3
+number_of RecordPlace = 3
 number_of JobCount = 4
 number_of RuleCount = 5
 number_of JobNumber = 6

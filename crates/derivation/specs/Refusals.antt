@@ -51,9 +51,13 @@ count_check count = check (ltb most_rules count) 5 0
 unfoldable pub job_outside : ℕ → Rule → Bool
 job_outside jobs r = leb jobs r.x || (leb jobs r.y || leb jobs r.z)
 
+-- a number is outside −limit to limit
+unfoldable pub beyond : ℕ → ℤ → Bool
+beyond limit n = lt_z n (minus limit) || lt_z (pos limit) n
+
 -- 7: offset outside −20,160 to 20,160
-unfoldable pub offset_outside : Rule → Bool
-offset_outside r = lt_z r.k (minus most_minutes) || lt_z (pos most_minutes) r.k
+abbrev pub offset_outside : Rule → Bool
+offset_outside r = beyond most_minutes r.k
 
 -- for each rule, 6 before 7; `at` is the first rule's number
 unfoldable pub rule_checks : ℕ → ℕ → List Rule → List Check
@@ -68,7 +72,7 @@ table_checks jobs rules = jobs_check jobs ∷ count_check (length rules) ∷ rul
 unfoldable pub latest_outside : ℤ → Bool
 latest_outside t = lt_z t (minus most_minutes) || lt_z (pos 0) t
 
--- for each time of a list; `at` is the first job's number
+-- 8 for each time of a list; `at` is the first job's number
 unfoldable pub time_checks : ℕ → List ℤ → List Check
 time_checks at [] = []
 time_checks at (t ∷ latest) = check (latest_outside t) 8 at ∷ time_checks (at + 1) latest

@@ -17,10 +17,11 @@ pub record State : Type 0 where
 abbrev pub initial : Book → State
 initial b = record { times = b.latest; tally = record { steps = 0; minutes = 0 } }
 
--- the rule of a number
+-- stands for the rule of a number that no rule has
 abbrev pub no_rule : Rule
 no_rule = record { x = 0; y = 0; z = 0; k = pos 0 }
 
+-- the rule of a number
 abbrev pub rule_at : List Rule → ℕ → Rule
 rule_at rules number = get_or rules number no_rule
 
@@ -47,7 +48,7 @@ sum_z (t ∷ times) = t +ℤ sum_z times
 unfoldable pub fits : List ℤ → Tally → List ℤ → Bool
 fits latest tally times = eq_z (pos tally.minutes) (sum_z latest -ℤ sum_z times) && leb tally.steps tally.minutes
 
--- the refusals of a hand step for the rule it names
+-- the refusals of a hand step for the rule it names; 25: the board shows none; 26: the rule is kept
 abbrev pub rule_step_checks : Book → State → ℕ → List Check
 rule_step_checks b state number =
     rule_check (length b.rules) number
@@ -55,13 +56,14 @@ rule_step_checks b state number =
     ∷ check (satisfied (rule_at b.rules number) state.times) 26 0
     ∷ []
 
--- for the table and the latest times, then the board, then the tally
+-- The checks of a call that is lent a board and a tally: those of the table, the latest times and the board's length, then 22: the board isn't
+-- legal, then 23: the tally doesn't fit.
 unfoldable pub state_checks : Book → State → List Check
 state_checks b state =
     times_checks b state.times
     ++ (check (not (in_range (lowest b) b.latest state.times)) 22 0 ∷ check (not (fits b.latest state.tally state.times)) 23 0 ∷ [])
 
--- a hand step
+-- the checks of a hand step
 unfoldable pub step_checks : Book → State → ℕ → List Check
 step_checks b state number = state_checks b state ++ rule_step_checks b state number
 

@@ -7,7 +7,7 @@ use Rattle.maxatom.specs.declared.Slip.{Slip}
 use Rattle.derivation.specs.Refusals.{Reply, refused, answer, NotRefused}
 use Rattle.derivation.specs.Step.{State, initial, rule_at, sum_z, fits, Called, step_call}
 use Rattle.derivation.specs.Back.{back_on, back_call}
-use Rattle.derivation.specs.Play.{Entry, play, end_state, stepped, sum_log}
+use Rattle.derivation.specs.Play.{Entry, play, end_state, answered, sum_log}
 use Rattle.derivation.specs.Demands.{Due, Lowered, Unchanged, step_numbers, WithPlan, WithNone}
 
 -- a hand step on a rule, or a step back by a slip, whoever wrote it
@@ -15,11 +15,12 @@ pub data Call : Type 0 where
   hand : ℕ → Call
   back : Slip → Call
 
--- whether it was done
+-- a reply without what it tells
 unfoldable pub done : {A : Type 0} → Reply A → Reply (Unit {0})
 done (refused number place) = refused number place
 done (answer a) = answer tt
 
+-- what a call does: a hand step, of whose reply only remains that it was done, or a step back
 unfoldable pub call : Book → State → Call → Called (Unit {0})
 call b state (hand number) = record { said = done (step_call b state number).said; after = (step_call b state number).after }
 call b state (back slip) = back_call b state slip
@@ -32,7 +33,7 @@ pub record BackDue (b : Book) (slip : Slip) (before : State) : Type 0 where
   pub above : slip.after <ℤ slip.before
   pub not_late : slip.before ≤ℤ time_at b.latest slip.job
   pub has_step : 1 ≤ before.tally.steps
-  pub fits : fits b.latest (back_on slip before).tally (back_on slip before).times ≡ true
+  pub fits_after : fits b.latest (back_on slip before).tally (back_on slip before).times ≡ true
 
 -- "the job returns to the time before, one step leaves the tally, and so do the minutes"
 pub record Returned (slip : Slip) (before after : State) : Type 0 where
@@ -67,7 +68,7 @@ is_back (back slip) = true
 
 -- how many of the calls that the test picks were done
 abbrev pub count_done : (Call → Bool) → List (Entry Call (Unit {0})) → ℕ
-count_done picks log = sum_log (λ e. cond (picks e.asked && stepped e) 1 0) log
+count_done picks log = sum_log (λ e. cond (picks e.asked && answered e) 1 0) log
 
 -- the log of a list of calls from a fresh board with a zero tally, and the state after it
 abbrev pub mixed_log : Book → List Call → List (Entry Call (Unit {0}))
@@ -78,9 +79,9 @@ mixed_end b calls = end_state (initial b) (mixed_log b calls)
 
 -- what holds of any list of them: with a plan or none as in demand 3, for the tally's steps, which are the hand steps done less those taken back
 pub record Mixed (b : Book) (calls : List Call) : Type 0 where
-  pub exactly : Each (λ e. (stepped e ≡ true) ↔ Allowed b e.asked e.before) (mixed_log b calls)
-  pub did : Each (λ e. stepped e ≡ true → Did b e.asked e.before e.after) (mixed_log b calls)
-  pub others : Each (λ e. stepped e ≡ false → Unchanged (call_numbers e.asked) e) (mixed_log b calls)
+  pub exactly : Each (λ e. (answered e ≡ true) ↔ Allowed b e.asked e.before) (mixed_log b calls)
+  pub did : Each (λ e. answered e ≡ true → Did b e.asked e.before e.after) (mixed_log b calls)
+  pub others : Each (λ e. answered e ≡ false → Unchanged (call_numbers e.asked) e) (mixed_log b calls)
   pub steps : (mixed_end b calls).tally.steps + count_done is_back (mixed_log b calls) ≡ count_done is_hand (mixed_log b calls)
   pub minutes : pos (mixed_end b calls).tally.minutes ≡ sum_z b.latest -ℤ sum_z (mixed_end b calls).times
   pub with_plan : (plan : List ℤ) → Plan b plan → WithPlan b plan (mixed_end b calls).times (mixed_end b calls).tally.steps

@@ -20,14 +20,15 @@ pub struct Tally {
 pub enum Fault {
     // The file ends inside a record or before its first one (1).
     FileEnds,
+    // A record's mark is not known (2).
     UnknownMark,
-    // The first record is no book's, or a later one is (3).
-    BookRecord,
+    // The first record is no book's, a later one is, or a latest time stands behind a rule (3).
+    RecordPlace,
     // The job count is outside 1 to 256 (4).
     JobCount,
     // There is a rule past the 1,024th (5).
     RuleCount,
-    // A rule names a job of number n or more (6).
+    // A rule or a latest time names a job of number n or more (6).
     JobNumber,
     // An offset, or hours, outside the bounds (7).
     Offset,
@@ -41,6 +42,7 @@ pub enum Fault {
     IllegalBoard,
     // The tally does not fit the board (23).
     TallyDiffers,
+    // There is no rule of that number (24).
     NoSuchRule,
     // The board shows none (25).
     ShowsNone,
@@ -61,7 +63,7 @@ impl From<Fault> for u8 {
         match fault {
             Fault::FileEnds => 1,
             Fault::UnknownMark => 2,
-            Fault::BookRecord => 3,
+            Fault::RecordPlace => 3,
             Fault::JobCount => 4,
             Fault::RuleCount => 5,
             Fault::JobNumber => 6,

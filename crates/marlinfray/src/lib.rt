@@ -12,7 +12,7 @@ ghost use Rattle.derivation.specs.Step.{step_call};
 ghost use Rattle.derivation.specs.Back.{back_call};
 ghost use Rattle.derivation.specs.Calls.{model_check_call, tight_call, initial_reply, initial_times, run_reply, run_times};
 ghost use Rattle.derivation.specs.Replies.{model_check, solved_answer, state_of};
-ghost use Rattle.derivation.specs.Examples.{class_number};
+ghost use Rattle.maxatom.specs.Class.{number_of_class};
 ghost use Rattle.bookfile.specs.Reading.{place_of};
 ghost use Rattle.bookfile.specs.Replies.{read_reply, read_rules, read_latest};
 ghost use Rattle.bookfile.specs.Writing.{plan_checks, plan_out};
@@ -171,10 +171,10 @@ pub extern "C" fn marlinfray_record(file: &[u8], number: usize, reply: &mut Word
 }
 
 // The class of a rule, as a number, since C reads it: 0 idle, 1 impossible, 2 one-armed, 3 two-armed.
-#[tactic(auto, unfolding(derivation::specs::Examples::class_number))]
+#[tactic(auto, unfolding(maxatom::specs::Class::number_of_class))]
 #[unsafe(no_mangle)]
 pub extern "C" fn marlinfray_class(x: u16, y: u16, z: u16, k: i32) -> u8
-    ensures { result ≡ class_number (class_of (record { x = x; y = y; z = z; k = k })) }
+    ensures { result ≡ number_of_class (class_of (record { x = x; y = y; z = z; k = k })) }
 {
     let r = Rule { x, y, z, k };
     match r.class() {

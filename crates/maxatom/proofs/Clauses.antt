@@ -8,7 +8,8 @@ use lib.IntN.{ℤ, ◌+ℤ◌}
 use lib.Signed.{◌≤ℤ◌}
 use Rattle.maxatom.specs.Rule.{max_z}
 use Rattle.maxatom.specs.Book.{Each}
-use Rattle.maxatom.specs.Clauses.{In, here, there, Clause, Assignment, arm_time, greatest, left_of, Keeps}
+use Rattle.maxatom.specs.Clauses.{Clause, Assignment, arm_time, greatest, left_of, Keeps}
+use Rattle.maxatom.specs.Inner.{In, here, there}
 use Rattle.maxatom.specs.declared.Arm.{Arm}
 use Rattle.maxatom.proofs.Integers.{dn, le_read, le_make, add_parts, ≤ℤ-trans, add_mono, max_cases, max_left, max_right}
 use Rattle.maxatom.proofs.Lists.{each_in, in_each}

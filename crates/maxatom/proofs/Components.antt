@@ -11,7 +11,8 @@ use lib.IntN.{ℤ, pos}
 use lib.Signed.{◌≤ℤ◌, ◌<ℤ◌}
 use Rattle.maxatom.specs.Rule.{time_at}
 use Rattle.maxatom.specs.Book.{Each}
-use Rattle.maxatom.specs.Clauses.{In, Clause, Assignment, left_of, Keeps, stepped}
+use Rattle.maxatom.specs.Clauses.{Clause, Assignment, left_of, Keeps, stepped}
+use Rattle.maxatom.specs.Inner.{In}
 use Rattle.maxatom.specs.declared.Arm.{Arm}
 use Rattle.maxatom.specs.Passes.{Walk, done, keep, lower, Passing, Traced, start, round}
 use Rattle.maxatom.proofs.Integers.{le_make, ≤ℤ-trans}

@@ -11,7 +11,8 @@ use lib.IntN.{ℤ, pos, ◌+ℤ◌}
 use lib.Signed.{◌≤ℤ◌, ◌<ℤ◌, le_z}
 use Rattle.maxatom.specs.Rule.{time_at, minutes_off}
 use Rattle.maxatom.specs.Book.{Each}
-use Rattle.maxatom.specs.Clauses.{In, here, Clause, Assignment, left_of, Keeps, stepped}
+use Rattle.maxatom.specs.Clauses.{Clause, Assignment, left_of, Keeps, stepped}
+use Rattle.maxatom.specs.Inner.{In, here}
 use Rattle.maxatom.specs.declared.Arm.{Arm}
 use Rattle.maxatom.proofs.Integers.{up, dn, le_read, le_make, lt_read, add_parts, off_most, off_parts, le_true, le_false, ≤ℤ-trans}
 use Rattle.maxatom.specs.Runs.{sum_by, room}

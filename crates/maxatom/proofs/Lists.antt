@@ -7,7 +7,7 @@ use lib.ListN.{length, get_or, set, take, drop}
 use lib.IntN.{ℤ, pos}
 use Rattle.maxatom.specs.Rule.{time_at}
 use Rattle.maxatom.specs.Book.{Each}
-use Rattle.maxatom.specs.Clauses.{In, here, there}
+use Rattle.maxatom.specs.Inner.{In, here, there}
 use Rattle.maxatom.specs.Runs.{sum_by}
 
 pub each_in : {A : Type 0} (P : A → Type 0) {a : A} (l : List A) → Each P l → In a l → P a

@@ -21,7 +21,7 @@ use Rattle.maxatom.proofs.Rules.{keeps_all, kept}
 pub plan_unique : {b : Book} {p q : List ℤ} → Plan b p → Plan b q → p ≡ q
 plan_unique {p = p} {q = q} a c =
     ext_get_or (pos 0) p q (a.model.size ∙ sym c.model.size)
-    (λ i h. eq_make (omega (arith, le_read (a.latest q c.model c.early i), le_read (c.latest p a.model a.early i))))
+    (λ i h. eq_make (omega (arith, le_read (a.above_all q c.model c.not_late i), le_read (c.above_all p a.model a.not_late i))))
 
 -- an assignment that keeps all, and agrees with the times at the jobs of the book
 kept_by : {jobs : ℕ} (rules : List Rule) (s : Assignment) (times : List ℤ) → Each (InBook jobs) rules →
@@ -66,7 +66,7 @@ one_later (t ∷ times) (l ∷ latest) e h (suc job) = one_later times latest (o
 
 pub plan_at_latest : {b : Book} → Accepted b → {p : List ℤ} → Plan b p → (job : ℕ) × (job < b.jobs) × (time_at p job ≡ time_at b.latest job)
 plan_at_latest {b = b} acc {p = p} plan =
-    ⊎_elim (λ w. (w.0, rw (← size) w.1, w.2)) (λ w. absurd (later w)) (search_latest p b.latest same plan.early)
+    ⊎_elim (λ w. (w.0, rw (← size) w.1, w.2)) (λ w. absurd (later w)) (search_latest p b.latest same plan.not_late)
   where
     size : length p ≡ b.jobs
     size = plan.model.size
@@ -86,4 +86,4 @@ plan_at_latest {b = b} acc {p = p} plan =
           size = length-map p _ ∙ size;
           keeps = kept_by b.rules (λ job. time_at p job +ℤ pos 1) q acc.rules_in at (lemma_1 (clauses_of b.rules) (time_at p) (pos 1) (keeps_all b.rules p plan.model.keeps));
         } in
-        omega (arith, le_read (plan.latest q m (one_later p b.latest same e) 0), add_parts (time_at p 0) (pos 1), ap up (at 0 acc.some), ap dn (at 0 acc.some))
+        omega (arith, le_read (plan.above_all q m (one_later p b.latest same e) 0), add_parts (time_at p 0) (pos 1), ap up (at 0 acc.some), ap dn (at 0 acc.some))

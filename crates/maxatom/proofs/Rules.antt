@@ -14,7 +14,8 @@ use Rattle.maxatom.specs.Book.{Book, zeros, Each, AllSatisfied, total, minus, sm
 use Rattle.maxatom.specs.Accepted.{InBook, Accepted}
 use Rattle.maxatom.specs.declared.Rule.{Rule}
 use Rattle.maxatom.specs.Clauses as Test
-use Rattle.maxatom.specs.Clauses.{In, here, there, Clause, left_of, greatest, Keeps, clause_of, clauses_of}
+use Rattle.maxatom.specs.Clauses.{Clause, left_of, greatest, Keeps, clause_of, clauses_of}
+use Rattle.maxatom.specs.Inner.{In, here, there}
 use Rattle.maxatom.proofs.Integers.{up, dn, le_read, le_make, lt_read, eq_make, add_parts, neg_parts, abs_parts, minus_parts, off_parts, le_true, true_le, lt_true, lt_false, add_mono, max_cases, max_left, max_right, max_under}
 use Rattle.maxatom.specs.Runs.{sum_by, room}
 use Rattle.maxatom.proofs.Clauses.{KeepsAll, Weighed, none, more}

@@ -11,7 +11,8 @@ use Rattle.std.specs.Prelude.{Some, None}
 use Rattle.maxatom.specs.Rule.{time_at, minutes_off}
 use Rattle.maxatom.specs.Book.{Each}
 use Rattle.maxatom.specs.declared.Arm.{Arm}
-use Rattle.maxatom.specs.Clauses.{In, here, there, Clause, Assignment, greatest, left_of, arms_of, Keeps, kept, stepped}
+use Rattle.maxatom.specs.Clauses.{Clause, Assignment, greatest, left_of, arms_of, Keeps, kept, stepped}
+use Rattle.maxatom.specs.Inner.{In, here, there}
 use Rattle.maxatom.specs.Passes.{Walk, done, keep, lower}
 use Rattle.maxatom.specs.Runs.{slip_at, pass, room}
 use Rattle.maxatom.proofs.Choose.{cond_yes, cond_no}

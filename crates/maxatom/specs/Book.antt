@@ -53,8 +53,8 @@ Under s t = (job : ℕ) → time_at s job ≤ℤ time_at t job
 -- plan: the model with no time after its job's latest that puts each job at least as late as every other such model does
 pub record Plan (b : Book) (plan : List ℤ) : Type 0 where
   pub model : Model b plan
-  pub early : Under plan b.latest
-  pub latest : (times : List ℤ) → Model b times → Under times b.latest → Under times plan
+  pub not_late : Under plan b.latest
+  pub above_all : (times : List ℤ) → Model b times → Under times b.latest → Under times plan
 
 -- K: the sum of the offsets without sign, repeats included
 unfoldable pub total : List Rule → ℕ

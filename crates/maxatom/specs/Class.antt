@@ -31,6 +31,13 @@ disjunctive r = not (tautology r) && (not (contradiction r) && not (difference r
 unfoldable pub class_of : Rule → Class
 class_of r = cond (tautology r) Tautology (cond (contradiction r) Contradiction (cond (difference r) Difference Disjunctive))
 
+-- the number of a class: idle 0, impossible 1, one-armed 2, two-armed 3
+unfoldable pub number_of_class : Class → ℕ
+number_of_class Tautology = 0
+number_of_class Contradiction = 1
+number_of_class Difference = 2
+number_of_class Disjunctive = 3
+
 -- a one-armed rule acts as this job twice
 unfoldable pub acting_twice : Rule → Rule
 acting_twice r =

@@ -1,8 +1,7 @@
 -- Clauses with any number of arms, each with its own offset: max(v₁ + k₁, …) ≥ z. A rule of document 01 is one with two arms and one offset.
-use Rattle.std.specs.Prelude.{Bool, List, [], ◌∷◌, map, ℕ, ◌<◌, set, get_or, ℤ, ◌+ℤ◌, ◌≤ℤ◌}
+use Rattle.std.specs.Prelude.{Bool, List, [], ◌∷◌, map, ℕ, set, ℤ, ◌+ℤ◌, ◌≤ℤ◌}
 use Rattle.std.specs.Int.Signed.{le_z}
 use Rattle.maxatom.specs.Rule.{time_at, max_z}
-use Rattle.maxatom.specs.Book.{Each}
 use Rattle.maxatom.specs.declared.Rule.{Rule}
 use Rattle.maxatom.specs.declared.Arm.{Arm}
 
@@ -14,15 +13,6 @@ pub record Clause : Type 0 where
 
 abbrev pub arms_of : Clause → List Arm
 arms_of c = c.first ∷ c.others
-
--- the arm of a number, the first where there is none
-abbrev pub arm_at : Clause → ℕ → Arm
-arm_at c i = get_or (arms_of c) i c.first
-
--- the jobs of a clause are below the job count
-pub record InJobs (jobs : ℕ) (c : Clause) : Type 0 where
-  pub arms : Each (λ (a : Arm). a.job < jobs) (arms_of c)
-  pub target : c.target < jobs
 
 -- a time for each job
 abbrev pub Assignment : Type 0
@@ -58,8 +48,3 @@ clause_of r = record { first = record { job = r.x; offset = r.k }; others = reco
 
 abbrev pub clauses_of : List Rule → List Clause
 clauses_of rules = map clause_of rules
-
--- one of a list
-pub data In {A : Type 0} : A → List A → Type 0 where
-  here : {a : A} {l : List A} → In a (a ∷ l)
-  there : {a b : A} {l : List A} → In a l → In a (b ∷ l)

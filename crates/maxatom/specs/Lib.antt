@@ -4,5 +4,6 @@ pub mod ClassNumber
 pub mod Book
 pub mod Accepted
 pub mod Clauses
+pub mod Inner
 pub mod Passes
 pub mod Runs

@@ -1,7 +1,8 @@
 -- Passes over a list of clauses, one assignment at a time or two in lockstep.
 use Rattle.std.specs.Prelude.{◌≡◌, List, [], ◌∷◌, ℕ, ◌+◌, ◌*◌, ◌≤◌, ℤ, pos, ◌+ℤ◌, ◌≤ℤ◌, ◌<ℤ◌}
 use Rattle.maxatom.specs.Rule.{time_at}
-use Rattle.maxatom.specs.Clauses.{Clause, arm_time, left_of, Keeps, stepped, In}
+use Rattle.maxatom.specs.Clauses.{Clause, arm_time, left_of, Keeps, stepped}
+use Rattle.maxatom.specs.Inner.{In}
 use Rattle.maxatom.specs.declared.Arm.{Arm}
 
 -- one arm reaches the left side at both assignments

@@ -16,7 +16,8 @@ use Rattle.std.proofs.lemmas.List.{get_or_default}
 use Rattle.std.proofs.lemmas.Iterator.Adapters.{position_from-zero}
 use Rattle.maxatom.specs.Rule.{satisfied, tight}
 use Rattle.maxatom.specs.Book.{Book, book, total}
-use Rattle.maxatom.specs.Clauses.{InJobs, clause_of}
+use Rattle.maxatom.specs.Clauses.{clause_of}
+use Rattle.maxatom.specs.Inner.{InJobs}
 use Rattle.maxatom.specs.declared.Rule.{Rule}
 use Rattle.derivation.specs.Faults.{number_of}
 use Rattle.derivation.specs.Refusals.{refused, answer, Check, reply, rule_check, times_checks}

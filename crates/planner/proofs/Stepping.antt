@@ -18,7 +18,8 @@ use mir.Val.{SFits}
 use Rattle.maxatom.specs.Rule.{time_at, satisfied, eq_z, minutes_off}
 use Rattle.maxatom.specs.Book.{Each, Book, total, smallest, floor}
 use Rattle.maxatom.specs.Accepted.{InTime, Accepted}
-use Rattle.maxatom.specs.Clauses.{InJobs, clause_of}
+use Rattle.maxatom.specs.Clauses.{clause_of}
+use Rattle.maxatom.specs.Inner.{InJobs}
 use Rattle.maxatom.specs.declared.Slip.{Slip}
 use Rattle.maxatom.proofs.Integers.{up, dn, le_read, le_make, lt_read, le_false, lt_false, eq_make, eq_true, true_eq, by_test, add_parts, neg_parts, off_parts}
 use Rattle.maxatom.proofs.Lists.{sum_set}
@@ -26,7 +27,7 @@ use Rattle.maxatom.proofs.Derivations.{one_below}
 use Rattle.derivation.specs.Faults.{number_of}
 use Rattle.derivation.specs.Refusals.{refused, answer, accepts, Check, reply, check, times_checks}
 use Rattle.derivation.specs.Step.{State, rule_at, lowest, in_range, below_floor, sum_z, fits, rule_step_checks, state_checks, step_checks, slip_of, step_on, Called, called_by, step_call}
-use Rattle.derivation.specs.Back.{back_on, differs, unfit, slip_checks, back_checks, back_call}
+use Rattle.derivation.specs.Back.{back_on, slip_differs, tally_short, slip_checks, back_checks, back_call}
 use Rattle.derivation.specs.declared.Refusal.{Refusal}
 use Rattle.derivation.proofs.Checks.{Passes, neither, says, skips, passed, accepting, refused_same, each_left, times_all_pass}
 use Rattle.derivation.proofs.Reached.{sum_parts, call_says, call_skips, call_passes, call_refused, call_done}
@@ -186,12 +187,12 @@ module _ (b : Book) (state : State) (slip : Slip) where
 
   -- the tests of the slip, one by one
   pub differs_by : {p q r : Bool} → eq_z (time_at state.times slip.job) slip.after ≡ p → le_z slip.before slip.after ≡ q →
-      lt_z (time_at b.latest slip.job) slip.before ≡ r → differs b state slip ≡ (not p || (q || r))
-  unfolding differs
+      lt_z (time_at b.latest slip.job) slip.before ≡ r → slip_differs b state slip ≡ (not p || (q || r))
+  unfolding slip_differs
   differs_by e f g = rw (e, f, g) refl
 
   -- and as the code has them, on bits
-  pub time_differs : (of_z w32 (time_at state.times slip.job) ≡ of_z w32 slip.after → ⊥) → differs b state slip ≡ true
+  pub time_differs : (of_z w32 (time_at state.times slip.job) ≡ of_z w32 slip.after → ⊥) → slip_differs b state slip ≡ true
   time_differs h = differs_by (by_test _ (λ q. h (ap (of_z w32) (eq_true _ _ q)))) refl refl
 
   module _ (fits_before : SFits w32 slip.before) (fits_after : SFits w32 slip.after) (fits_time : SFits w32 (time_at state.times slip.job))
@@ -202,12 +203,12 @@ module _ (b : Book) (state : State) (slip : Slip) where
     abbrev above : Bool → Type 0
     above t = le_z (to_z w32 (of_z w32 slip.before)) (to_z w32 (of_z w32 slip.after)) ≡ t
 
-    pub no_higher : above true → differs b state slip ≡ true
+    pub no_higher : above true → slip_differs b state slip ≡ true
     no_higher e = differs_by same_time (rw (to_z-of_z fits_before, to_z-of_z fits_after) at e) refl
 
     module _ (fits_latest : SFits w32 (time_at b.latest slip.job)) (e : above false) where
       -- so the last test decides
-      pub late : {t : Bool} → lt_z (to_z w32 (of_z w32 (time_at b.latest slip.job))) (to_z w32 (of_z w32 slip.before)) ≡ t → differs b state slip ≡ t
+      pub late : {t : Bool} → lt_z (to_z w32 (of_z w32 (time_at b.latest slip.job))) (to_z w32 (of_z w32 slip.before)) ≡ t → slip_differs b state slip ≡ t
       late f =
           differs_by same_time (rw (to_z-of_z fits_before, to_z-of_z fits_after) at e) (rw (to_z-of_z fits_latest, to_z-of_z fits_before) at f)
 
@@ -220,27 +221,27 @@ module _ (b : Book) (state : State) (slip : Slip) where
     back_no_job h = back_slip ∙ call_says _ _ _ _ _ (le-leb b.jobs slip.job h)
 
     module _ (of_book : slip.job < b.jobs) where
-      pub back_differs : differs b state slip ≡ true → back_call b state slip ≡ remains 28 0
+      pub back_differs : slip_differs b state slip ≡ true → back_call b state slip ≡ remains 28 0
       back_differs h = back_slip ∙ (call_skips _ _ _ _ _ (lt-leb b.jobs slip.job of_book) ∙ call_says _ _ _ _ _ h)
 
-      module _ (alike : differs b state slip ≡ false) where
+      module _ (alike : slip_differs b state slip ≡ false) where
         abbrev off : ℕ
         off = minutes_off slip.before slip.after
 
         -- what the tests of the slip have seen: the job is at its time after, which is below its time before, which is no later than the job's latest
         stands : time_at state.times slip.job ≡ slip.after
-        unfolding differs
+        unfolding slip_differs
         stands = eq_true _ _ (not-false _ (neither _ _ alike).0)
 
         above_after : slip.after <ℤ slip.before
-        unfolding differs
+        unfolding slip_differs
         above_after = le_false _ _ (neither _ _ (neither _ _ alike).1).0
 
         off_is : up slip.before + dn slip.after ≡ up slip.after + dn slip.before + off
         off_is = off_parts slip.before slip.after (le_make (omega (arith, lt_read above_after)))
 
         not_late : slip.before ≤ℤ time_at b.latest slip.job
-        unfolding differs
+        unfolding slip_differs
         not_late = lt_false _ _ (neither _ _ (neither _ _ alike).1).1
 
         minutes_are : pos state.tally.minutes ≡ sum_z b.latest -ℤ sum_z state.times
@@ -292,11 +293,11 @@ module _ (b : Book) (state : State) (slip : Slip) where
                   add_parts (sum_z b.latest) (neg_ℤ (sum_z (set state.times slip.job slip.before))),
                 ))
 
-        unfit_by : {p q : Bool} → eqb state.tally.steps 0 ≡ p → leb (state.tally.steps - 1) (state.tally.minutes - off) ≡ q → unfit b state slip ≡ (p || not q)
-        unfolding unfit
+        unfit_by : {p q : Bool} → eqb state.tally.steps 0 ≡ p → leb (state.tally.steps - 1) (state.tally.minutes - off) ≡ q → tally_short b state slip ≡ (p || not q)
+        unfolding tally_short
         unfit_by e f = rw (e, back_fits ∙ f) refl
 
-        back_alike : back_call b state slip ≡ called_by (check (unfit b state slip) 29 0 ∷ []) tt state (back_on slip state)
+        back_alike : back_call b state slip ≡ called_by (check (tally_short b state slip) 29 0 ∷ []) tt state (back_on slip state)
         back_alike = back_slip ∙ (call_skips _ _ _ _ _ (lt-leb b.jobs slip.job of_book) ∙ call_skips _ _ _ _ _ alike)
 
         pub back_none : state.tally.steps ≡ 0 → back_call b state slip ≡ remains 29 0

@@ -3,7 +3,8 @@ use Rattle.std.specs.Prelude.{List, ◌+◌, ◌<◌, ◌^◌, ℤ, length}
 use Rattle.std.specs.Int.{w32}
 use Rattle.std.proofs.Common.{SFits}
 use Rattle.maxatom.specs.Rule.{time_at, left_side, minutes_off}
-use Rattle.maxatom.specs.Clauses.{InJobs, clause_of}
+use Rattle.maxatom.specs.Clauses.{clause_of}
+use Rattle.maxatom.specs.Inner.{InJobs}
 use Rattle.maxatom.specs.declared.Rule.{Rule}
 use Rattle.derivation.specs.declared.Tally.{Tally}
 

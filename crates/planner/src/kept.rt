@@ -2,7 +2,8 @@
 ghost use Rattle.std.specs.Prelude.{◌≡◌, not, length, All, position};
 ghost use Rattle.maxatom.specs.Rule.{satisfied};
 ghost use Rattle.maxatom.specs.Book.{book};
-ghost use Rattle.maxatom.specs.Clauses.{clause_of, InJobs};
+ghost use Rattle.maxatom.specs.Clauses.{clause_of};
+ghost use Rattle.maxatom.specs.Inner.{InJobs};
 ghost use Rattle.derivation.specs.Calls.{model_check_call};
 ghost use Rattle.derivation.specs.Replies.{model_check_reply};
 

@@ -12,7 +12,8 @@ use lib.Signed.{lt_z}
 use lib.Seq.{sets}
 use borrow.Author.Tests.{lt-ltb, le-ltb, ltb-true, ltb-false}
 use Rattle.maxatom.proofs.Choose.{cond_yes, cond_no, clash}
-use Rattle.report.specs.Text.{Writes, digits, decimal, field, signed_field}
+use Rattle.report.specs.Text.{digits, decimal, field, signed_field}
+use Rattle.report.specs.Inner.{Writes}
 use Rattle.report.specs.declared.text.Text.{Text}
 
 sets_append : (l : List ℕ) (i : ℕ) (xs ys : List ℕ) → sets l i (xs ++ ys) ≡ sets (sets l i xs) (i + length xs) ys

@@ -1,3 +1,4 @@
 pub mod Text
+pub mod Inner
 pub mod Report
 pub mod Latest

@@ -1,17 +1,11 @@
 -- Decimal text, as bytes of ASCII.
 use Rattle.std.specs.Prelude.{◌≡◌, cond, List, [], ◌∷◌, ◌++◌, ℕ, zero, suc, ◌+◌, ◌/◌, ◌%◌, ltb, length, ℤ, pos, negsuc}
 use Rattle.std.proofs.lemmas.List.Edits.{sets}
-use Rattle.report.specs.declared.text.Text.{Text}
 
 -- bytes stand in a buffer from a place on, and the next place; what does not fit is left out
 pub record Written (before : List ℕ) (at : ℕ) (bytes after : List ℕ) (next : ℕ) : Type 0 where
   pub is : after ≡ sets before at bytes
   pub to : next ≡ at + length bytes
-
--- bytes were written at the end of a text, into the buffer that it has
-pub record Writes (before : Text) (bytes : List ℕ) (after : Text) : Type 0 where
-  pub written : Written before.out.now before.end bytes after.out.now after.end
-  pub same : after.out.ghost_name ≡ before.out.ghost_name
 
 -- decimal, with more digits than any number below the fuel has
 unfoldable pub digits : ℕ → ℕ → List ℕ

@@ -2,7 +2,8 @@
 ghost use Rattle.std.specs.Prelude.{◌≡◌, ◌+◌, ◌^◌, ◌<◌, ◌≤◌, length};
 ghost use Rattle.maxatom.specs.Book.{book};
 ghost use Rattle.maxatom.specs.Accepted.{Accepted};
-ghost use Rattle.report.specs.Text.{Written, Writes};
+ghost use Rattle.report.specs.Text.{Written};
+ghost use Rattle.report.specs.Inner.{Writes};
 ghost use Rattle.report.specs.Latest.{table_text, report_of};
 
 use crate::text::Text;

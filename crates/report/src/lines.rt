@@ -4,7 +4,7 @@ ghost use Rattle.std.specs.Prelude.{◌++◌, ◌+◌, ◌<◌, ◌≤◌, ◌^�
 ghost use Rattle.maxatom.specs.Book.{most_jobs, most_rules, Each, total};
 ghost use Rattle.maxatom.specs.Accepted.{InBook};
 ghost use Rattle.derivation.specs.Faults.{number_of};
-ghost use Rattle.report.specs.Text.{Writes};
+ghost use Rattle.report.specs.Inner.{Writes};
 ghost use Rattle.report.specs.Report.{book_line, job_line, job_lines, tight_fields, tight_line, steps_line, none_line, refused_line, plan_text};
 
 use crate::text::Text;

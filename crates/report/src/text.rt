@@ -1,7 +1,8 @@
 // Text written into a lent buffer, piece after piece. What does not fit is left out; the end is counted all the same. Numbers are written
 // here, since the library's `write!` says what it wrote only where it succeeds, and does not say that it succeeds; a report always ends.
 ghost use Rattle.std.specs.Prelude.{◌≡◌, [], ◌∷◌, ◌+◌, ◌<◌, ◌≤◌, ◌^◌, length};
-ghost use Rattle.report.specs.Text.{Writes, decimal, field, signed_field};
+ghost use Rattle.report.specs.Text.{decimal, field, signed_field};
+ghost use Rattle.report.specs.Inner.{Writes};
 
 // A buffer, and where the text in it ends. How far a text may reach is a clause of each method and no invariant, since each piece adds a
 // length of its own.

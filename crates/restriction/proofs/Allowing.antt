@@ -12,7 +12,8 @@ use lib.Signed.{◌≤ℤ◌}
 use Rattle.maxatom.specs.Rule.{time_at}
 use Rattle.maxatom.specs.Book.{Each}
 use Rattle.maxatom.specs.declared.Arm.{Arm}
-use Rattle.maxatom.specs.Clauses.{In, Clause, Assignment, arm_time, arms_of, left_of}
+use Rattle.maxatom.specs.Clauses.{Clause, Assignment, arm_time, arms_of, left_of}
+use Rattle.maxatom.specs.Inner.{In}
 use Rattle.maxatom.proofs.Integers.{le_read, le_make, eq_make, add_parts, add_mono, ≤ℤ-trans}
 use Rattle.maxatom.proofs.Lists.{each_in}
 use Rattle.maxatom.proofs.Clauses.{Below, reaching, reached}

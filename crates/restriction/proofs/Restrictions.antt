@@ -15,7 +15,8 @@ use Rattle.std.proofs.lemmas.List.{get_or_default, get_or-set_other, get_or-set_
 use Rattle.maxatom.specs.Rule.{time_at}
 use Rattle.maxatom.specs.Book.{Each}
 use Rattle.maxatom.specs.declared.Arm.{Arm}
-use Rattle.maxatom.specs.Clauses.{In, here, there, Clause, arms_of, arm_at, left_of, InJobs}
+use Rattle.maxatom.specs.Clauses.{Clause, arms_of, left_of}
+use Rattle.maxatom.specs.Inner.{In, here, there, arm_at, InJobs}
 use Rattle.maxatom.proofs.Lists.{each_in, in_each, each_map, each_join}
 use Rattle.maxatom.proofs.Components.{Within, Merged, nothing, left, right}
 use Rattle.clauses.specs.Passes.{InTimes, tautology, put_arm}

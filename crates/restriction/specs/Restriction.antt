@@ -5,7 +5,8 @@ use Rattle.std.specs.Int.Signed.{le_z}
 use Rattle.maxatom.specs.Rule.{time_at}
 use Rattle.maxatom.specs.Book.{Each}
 use Rattle.maxatom.specs.declared.Arm.{Arm}
-use Rattle.maxatom.specs.Clauses.{In, Clause, arms_of, left_of}
+use Rattle.maxatom.specs.Clauses.{Clause, arms_of, left_of}
+use Rattle.maxatom.specs.Inner.{In}
 use Rattle.maxatom.specs.Passes.{Passing, Traced, Along}
 use Rattle.clauses.specs.Passes.{tautology}
 use Rattle.restriction.specs.declared.pace.Pace.{Pace}

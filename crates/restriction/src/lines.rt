@@ -1,7 +1,8 @@
 // Times that fall along lines: whether one arm stays above another, so that what is left of the clauses decides as they do.
 ghost use Rattle.std.specs.Prelude.{◌≡◌, Bool, true, false, ℕ, ◌*◌, ◌<◌, ◌^◌, length, map};
 ghost use Rattle.maxatom.specs.Book.{Each};
-ghost use Rattle.maxatom.specs.Clauses.{arms_of, InJobs};
+ghost use Rattle.maxatom.specs.Clauses.{arms_of};
+ghost use Rattle.maxatom.specs.Inner.{InJobs};
 ghost use Rattle.clauses.specs.Passes.{InTimes};
 ghost use Rattle.restriction.specs.Restriction.{own, Staying, Above, Keeper, Covered, InComponents, ClauseAllowed, Allowed};
 

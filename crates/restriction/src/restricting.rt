@@ -1,6 +1,7 @@
 // What is left of a clause for the component of its target, and of the clauses for a component.
 ghost use Rattle.std.specs.Prelude.{◌≡◌, true, false, [], ◌∷◌, ℕ, ◌+◌, ◌<◌, ◌≤◌, length, map, take, MatchOption, Some, None};
-ghost use Rattle.maxatom.specs.Clauses.{arms_of, arm_at, InJobs};
+ghost use Rattle.maxatom.specs.Clauses.{arms_of};
+ghost use Rattle.maxatom.specs.Inner.{arm_at, InJobs};
 ghost use Rattle.clauses.specs.Passes.{InTimes};
 ghost use Rattle.restriction.specs.Restriction.{own, first_own, with_own, leftover, pick};
 

@@ -4,7 +4,8 @@ use native.Mathlib.Decide.{dec_lt}
 use lib.Seq.{take-length}
 use Rattle.std.proofs.lemmas.Nat.Bits.{bit_at_xor, bit_at-pow_same, bit_at-pow_other}
 use Rattle.maxatom.specs.Rule.{time_at, eq_z}
-use Rattle.maxatom.specs.Clauses.{In, Clause, arms_of, arm_at, Keeps}
+use Rattle.maxatom.specs.Clauses.{Clause, arms_of, Keeps}
+use Rattle.maxatom.specs.Inner.{In, arm_at}
 use Rattle.maxatom.specs.declared.Arm.{Arm}
 use Rattle.maxatom.specs.Passes.{Walk}
 use Rattle.maxatom.proofs.Choose.{clash}

@@ -4,7 +4,8 @@ use lib.ListN.{length-map}
 use Rattle.std.proofs.lemmas.List.{drop_more, get_or-map}
 use Rattle.maxatom.specs.Rule.{time_at}
 use Rattle.maxatom.specs.Book.{Each, minus}
-use Rattle.maxatom.specs.Clauses.{In, here, InJobs, Clause, arms_of, arm_time, left_of, stepped}
+use Rattle.maxatom.specs.Clauses.{Clause, arms_of, arm_time, left_of, stepped}
+use Rattle.maxatom.specs.Inner.{In, here, InJobs}
 use Rattle.maxatom.specs.declared.Arm.{Arm}
 use Rattle.maxatom.specs.Passes.{Walk, round}
 use Rattle.maxatom.specs.Runs.{slip_at, pass, Run, run, room, sum_by}

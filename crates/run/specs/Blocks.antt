@@ -1,7 +1,8 @@
 -- Blocks of 16 clauses, a bit of a word each.
 use Rattle.std.specs.Prelude.{List, ℕ, ◌<◌, ◌/◌, length, get_or, ℤ}
 use Rattle.maxatom.specs.Rule.{time_at}
-use Rattle.maxatom.specs.Clauses.{In, Clause, arms_of, Keeps}
+use Rattle.maxatom.specs.Clauses.{Clause, arms_of, Keeps}
+use Rattle.maxatom.specs.Inner.{In}
 use Rattle.maxatom.specs.declared.Arm.{Arm}
 use Rattle.clauses.specs.Bits.{HasBlock}
 

@@ -2,7 +2,7 @@
 // until the job of one of its arms is lowered.
 ghost use Rattle.std.specs.Prelude.{◌≡◌, true, ℕ, ◌<◌, ◌≤◌, length, map};
 ghost use Rattle.maxatom.specs.Book.{Each};
-ghost use Rattle.maxatom.specs.Clauses.{InJobs};
+ghost use Rattle.maxatom.specs.Inner.{InJobs};
 ghost use Rattle.clauses.specs.Bits.{HasBlock};
 ghost use Rattle.run.specs.Blocks.{Reads};
 

@@ -15,7 +15,8 @@ use Rattle.maxatom.specs.Rule.{eq_z}
 use Rattle.maxatom.proofs.Integers.{eq_true, true_eq, by_test}
 use Rattle.maxatom.specs.Book.{Book, Each}
 use Rattle.maxatom.specs.Accepted.{Accepted, InBook}
-use Rattle.maxatom.specs.Clauses.{InJobs, clause_of, clauses_of}
+use Rattle.maxatom.specs.Clauses.{clause_of, clauses_of}
+use Rattle.maxatom.specs.Inner.{InJobs}
 use Rattle.maxatom.specs.declared.Rule.{Rule}
 use Rattle.std.specs.Prelude.{Ok, Err}
 use Rattle.derivation.specs.Faults.{number_of}

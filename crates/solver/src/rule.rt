@@ -3,7 +3,8 @@ ghost use Rattle.std.specs.Prelude.{◌≡◌, length, set};
 ghost use Rattle.std.specs.Int.{w32};
 ghost use Rattle.std.proofs.Common.{SFits};
 ghost use Rattle.maxatom.specs.Rule.{left_side, satisfied, tight};
-ghost use Rattle.maxatom.specs.Clauses.{clause_of, InJobs};
+ghost use Rattle.maxatom.specs.Clauses.{clause_of};
+ghost use Rattle.maxatom.specs.Inner.{InJobs};
 ghost use Rattle.derivation.specs.Step.{slip_of};
 
 use clauses::AsClause;

@@ -14,7 +14,7 @@ use derivation::{Fault, Refusal};
 use maxatom::Rule;
 
 // The checks of one rule of a table over `jobs` jobs: its job numbers, then its offset.
-#[tactic(auto, unfolding(crate::specs::Faults::rule_fault, derivation::specs::Refusals::job_outside, derivation::specs::Refusals::offset_outside), using(maxatom::proofs::Signed::told))]
+#[tactic(auto, unfolding(crate::specs::Faults::rule_fault, derivation::specs::Refusals::job_outside, derivation::specs::Refusals::beyond), using(maxatom::proofs::Signed::told))]
 pub fn check_rule(jobs: usize, r: Rule) -> Result<(), Fault>
     ensures { result ≡ rule_fault jobs r }
 {
@@ -88,7 +88,7 @@ pub fn smallest(latest: &[i32]) -> i32
     least
 }
 
-// The floor of a book with this smallest latest time and this K.
+// The floor of a book with this smallest latest time and this K; with 2K in its place, the lowest legal time.
 pub fn floor(smallest: i32, k: u32) -> i32
     requires bounded { InTime smallest }
     requires small { k < 2 ^ 30 }

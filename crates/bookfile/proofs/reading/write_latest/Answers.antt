@@ -15,21 +15,21 @@ pub loop-time-init : goal.loop-time-init
 loop-time-init c =
     filled_none _ c.requires.listed (c.fill.ensures.after (λ y e. e) ∙ ap (λ (n : ℕ). replicate n (pos 0)) c.requires.latest_len)
 
-pub latest_at-time-requires : goal.latest_at-time-requires
-latest_at-time-requires c = (turn c.loop-time.invariant (sym c.loop-time-test.ensures)).inside
+pub decoded_latest-time-requires : goal.decoded_latest-time-requires
+decoded_latest-time-requires c = (turn c.loop-time.invariant (sym c.loop-time-test.ensures)).inside
 
 pub bounds-latest-from : goal.bounds-latest-from
-bounds-latest-from c = rw (c.from.ensures, c.latest_at-time.ensures) (turn c.loop-time.invariant (sym c.loop-time-test.ensures)).below
+bounds-latest-from c = rw (c.from.ensures, c.decoded_latest-time.ensures) (turn c.loop-time.invariant (sym c.loop-time-test.ensures)).below
 
 pub loop-time-smaller : goal.loop-time-smaller
 loop-time-smaller c = omega (arith, (turn c.loop-time.invariant (sym c.loop-time-test.ensures)).inside)
 
 pub loop-time-preserved : goal.loop-time-preserved
 loop-time-preserved c =
-    let f : SFits w32 c.latest_at-time.result.minute = search rules in
+    let f : SFits w32 c.decoded_latest-time.result.minute = search rules in
     (turn c.loop-time.invariant (sym c.loop-time-test.ensures)).next
-    (c.from.ensures ∙ ap (λ (t : LatestTime). t.job) c.latest_at-time.ensures)
-    (to_z-of_z f ∙ ap (λ (t : LatestTime). t.minute) c.latest_at-time.ensures)
+    (c.from.ensures ∙ ap (λ (t : LatestTime). t.job) c.decoded_latest-time.ensures)
+    (to_z-of_z f ∙ ap (λ (t : LatestTime). t.minute) c.decoded_latest-time.ensures)
 
 pub returns : goal.returns
 returns c = filled_all c.loop-time.invariant (sym c.loop-time-test.ensures)

@@ -8,7 +8,8 @@ use lib.Signed.{◌≤ℤ◌}
 use Rattle.std.specs.Prelude.{◌≤◌, ◌^◌}
 use Rattle.maxatom.specs.Book.{Each}
 use Rattle.maxatom.specs.declared.Arm.{Arm}
-use Rattle.maxatom.specs.Clauses.{arms_of, InJobs}
+use Rattle.maxatom.specs.Clauses.{arms_of}
+use Rattle.maxatom.specs.Inner.{InJobs}
 use Rattle.maxatom.proofs.Integers.{lt_false}
 use Rattle.maxatom.proofs.Lists.{each_map, each_time}
 use Rattle.clause_runs.specs.Sound.{SoundArm, SoundClause, Between}

@@ -3,7 +3,7 @@ use lib.ListN.{length-map}
 use mir.Syntax.{w64}
 use mir.Val.{SFits}
 use mir.Facts.{to_z-of_z}
-use Rattle.maxatom.specs.Clauses.{InJobs}
+use Rattle.maxatom.specs.Inner.{InJobs}
 use Rattle.clauses.proofs.Passes.{item_in_times, fall_item, Read, read_violated, read_kept, read_low, walked_none, walked_few, walked_keep, walked_lower, walked_all, walked_before, noted_none, noted_some, noted_lower}
 use Rattle.clauses.proofs.passing.pass_over.Goals as goal
 use Rattle.clauses.proofs.passing.pass_over.Goals.{After-target-z, After-from-time, then-left-time+else-left-from+in-Some, then-left-time+else-left-from+in_default, else-left-time}

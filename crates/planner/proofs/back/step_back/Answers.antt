@@ -2,7 +2,7 @@ use Rattle.std.proofs.Common.{◌≡◌, refl, rules, arith, true, to_z-of_z, w3
 use Rattle.std.proofs.lemmas.Result.{err_from_is_err_and}
 use Rattle.maxatom.specs.Book.{book}
 use Rattle.derivation.specs.Refusals.{refused}
-use Rattle.derivation.specs.Back.{differs, back_call}
+use Rattle.derivation.specs.Back.{slip_differs, back_call}
 use Rattle.derivation.specs.Replies.{state_of}
 use Rattle.planner.proofs.Stepping.{standing, back_refused, back_no_job, time_differs, no_higher, late, back_differs, enough, back_none, back_many, back_done}
 use Rattle.planner.proofs.back.step_back.Goals as goal
@@ -30,7 +30,7 @@ pub returns-then-time-slip : goal.returns-then-time-slip
 returns-then-time-slip c =
     let b = book c.args.n c.args.latest.now c.args.rules.now in
     let state = state_of c.args.times.now c.args.tally.now in
-    let d : differs b state c.args.slip ≡ true =
+    let d : slip_differs b state c.args.slip ≡ true =
     elim c.then-time-slip.branch [
       | then-time-slip-via-then-time-slip w ↦ time_differs b state c.args.slip w.if-time-slip.true
       | then-time-slip-via-else-time-slip+then-slip w ↦ no_higher b state c.args.slip (search rules) (search rules) (search rules) w.if-time-slip.false w.if-slip.true

@@ -1,5 +1,5 @@
 use Rattle.std.proofs.Common.{ℕ, ◌<◌}
-use Rattle.maxatom.specs.Clauses.{arm_at}
+use Rattle.maxatom.specs.Inner.{arm_at}
 use Rattle.restriction.specs.Restriction.{component_of}
 use Rattle.restriction.proofs.lines.in_components.Given as goal
 

@@ -1,5 +1,5 @@
 use Rattle.std.proofs.Common.{◌≡◌, false, ℕ, ◌<◌}
-use Rattle.maxatom.specs.Clauses.{arm_at}
+use Rattle.maxatom.specs.Inner.{arm_at}
 use Rattle.restriction.specs.Restriction.{own, Covered}
 use Rattle.restriction.proofs.lines.others_covered.Given as goal
 

@@ -1,5 +1,5 @@
 use Rattle.std.proofs.Common.{◌≡◌, false, ℕ, ◌<◌}
-use Rattle.maxatom.specs.Clauses.{arm_at}
+use Rattle.maxatom.specs.Inner.{arm_at}
 use Rattle.restriction.specs.Restriction.{own}
 use Rattle.restriction.proofs.restricting.first_own.Given as goal
 

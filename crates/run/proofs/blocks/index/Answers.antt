@@ -3,7 +3,7 @@ use borrow.Author.Count.{below_more}
 use lib.Bits.{bit_or}
 use lib.ListN.{length-set}
 use Rattle.std.proofs.lemmas.List.{get_or-map}
-use Rattle.maxatom.specs.Clauses.{InJobs}
+use Rattle.maxatom.specs.Inner.{InJobs}
 use Rattle.maxatom.specs.declared.Arm.{Arm}
 use Rattle.clauses.specs.Bits.{HasBlock}
 use Rattle.clauses.proofs.Arms.{arm_each}

@@ -1,5 +1,5 @@
 use Rattle.std.proofs.Common.{◌≡◌, ℕ, ◌<◌, ◌/◌, length, map, get_or}
-use Rattle.maxatom.specs.Clauses.{arm_at}
+use Rattle.maxatom.specs.Inner.{arm_at}
 use Rattle.clauses.specs.Bits.{HasBlock}
 use Rattle.run.specs.Blocks.{ReadBefore}
 use Rattle.run.proofs.blocks.index.Given as goal

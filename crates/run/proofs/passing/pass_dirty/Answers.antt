@@ -2,7 +2,7 @@ use Rattle.std.proofs.Common.{arith, ◌-◌, ◌*◌, length, map, drop, refl, 
 use mathlib.Core.Bool.{true≢false}
 use mir.Facts.{to_z-of_z}
 use Rattle.std.proofs.lemmas.List.{length-take}
-use Rattle.maxatom.specs.Clauses.{InJobs}
+use Rattle.maxatom.specs.Inner.{InJobs}
 use Rattle.clauses.proofs.Passes.{walked_none}
 use Rattle.run.proofs.Stretches.{each_stretch, targets_in, few_over, all_over, block_over, block_settled, block_fell, block_kept}
 use Rattle.run.proofs.passing.pass_dirty.Goals as goal

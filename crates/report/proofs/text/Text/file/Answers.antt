@@ -1,5 +1,5 @@
 use Rattle.std.proofs.Common.{List, ℕ, refl, subst}
-use Rattle.report.specs.Text.{Writes}
+use Rattle.report.specs.Inner.{Writes}
 use Rattle.report.proofs.Reports.{accepted_read, report_read, report_refused}
 use Rattle.report.proofs.text.Text.file.Goals as goal
 

@@ -2,7 +2,8 @@ use Rattle.std.proofs.Common.{rules, ℤ, subst}
 use mir.Facts.{to_z-of_z}
 use mir.Syntax.{w32}
 use mir.Val.{SFits}
-use Rattle.report.specs.Text.{Writes, signed_field}
+use Rattle.report.specs.Text.{signed_field}
+use Rattle.report.specs.Inner.{Writes}
 use Rattle.report.specs.Report.{none_line}
 use Rattle.report.proofs.Texts.{writes_then}
 use Rattle.report.proofs.text.Text.none_line.Goals as goal

@@ -8,11 +8,11 @@ use mir.Syntax.{w16, w32}
 use mir.Val.{SFits, to_z}
 use Rattle.std.proofs.Common.{rules}
 use Rattle.bookfile.specs.Numbers.{word}
-use Rattle.bookfile.specs.Kinds.{HR, rule_with, rule_at}
+use Rattle.bookfile.specs.Kinds.{HR, rule_with, decoded_rule}
 use Rattle.bookfile.proofs.Records.{in_minutes, size_minutes, rule_hours, rule_minutes, rule_fields}
 use Rattle.bookfile.proofs.Words.{signed16_is, sixty_fits}
-use Rattle.bookfile.proofs.reading.rule_at.Goals as goal
-use Rattle.bookfile.proofs.reading.rule_at.Goals.{then-is_in_hours, else-is_in_hours}
+use Rattle.bookfile.proofs.reading.decoded_rule.Goals as goal
+use Rattle.bookfile.proofs.reading.decoded_rule.Goals.{then-is_in_hours, else-is_in_hours}
 
 pub signed32-k-requires : goal.signed32-k-requires
 signed32-k-requires c =
@@ -21,7 +21,7 @@ signed32-k-requires c =
 
 pub returns : goal.returns
 returns c =
-    let said : rule_with c.args.file.now c.args.at (to_z w32 c.if-is_in_hours.k-bits) ≡ rule_at c.args.file.now c.args.at =
+    let said : rule_with c.args.file.now c.args.at (to_z w32 c.if-is_in_hours.k-bits) ≡ decoded_rule c.args.file.now c.args.at =
     elim c.if-is_in_hours.branch [
       | then-is_in_hours w ↦
           let h = eqb-true (word c.args.file.now c.args.at) HR.mark (sym c.is_in_hours.ensures ∙ w.if-is_in_hours.true) in
