@@ -11,7 +11,7 @@ import re
 import subprocess
 import sys
 
-PROGRAMS = ("examples", "calls", "limits", "small_books", "latest")
+PROGRAMS = ("examples", "calls", "limits", "small_books", "latest", "board", "board_sessions")
 wrong = []
 
 

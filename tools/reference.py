@@ -18,6 +18,8 @@ the times before and after of a slip, 0 where the reply has none.
 """
 
 import itertools
+import os
+import re
 import struct
 import sys
 
@@ -766,12 +768,89 @@ def examples():
     return out + "L\n" + hand() + "B\n" + records(book(*EXAMPLES["B"]), range(5)) + "P\n" + records(book(*EXAMPLES["P"]), range(2))
 
 
+NUMBER, TIME = rb"(0|[1-9][0-9]*)", rb"(0|-?[1-9][0-9]*)"
+COMMANDS = [re.compile(b" ".join(parts)) for parts in (
+    (b"(SHOW)",), (b"(STEP)", NUMBER), (b"(BACK)", NUMBER, TIME, TIME), (b"(KEPT)",), (b"(TIGHT)", NUMBER), (b"(RULE)", NUMBER), (b"(RUN)",),
+    (b"(FRESH)",), (b"(PLAN)",))]
+
+
+def command(line):
+    """A line of `board`: its word and its numbers, or None where it is no command."""
+    found = [m for m in (c.fullmatch(line) for c in COMMANDS) if m]
+    if not found or len(line) > 255:
+        return None
+    word, *numbers = found[0].groups()
+    numbers = [int(n) for n in numbers]
+    if word == b"BACK":
+        job, *times = numbers
+        fits = job < 2**16 and all(-(2**31) <= t < 2**31 for t in times)
+    else:
+        fits = all(n < 2**32 for n in numbers)
+    return (word.decode(), *numbers) if fits else None
+
+
+def board(data, lines):
+    """What `board` prints for a file and the bytes of its standard input."""
+    reply, rules, latest = read(data, MOST_RULES, MOST_JOBS)
+    if reply[0] == 2:
+        return "REFUSED %d %d\n" % reply[1:3]
+    n, times, tally, out = reply[1], list(latest), (0, 0), []
+
+    def said(reply, *answers):
+        out.append("REFUSED %d %d" % reply[1:3] if reply[0] == 2 else answers[reply[0]])
+
+    for line in lines.split(b"\n"):
+        match command(line):
+            case None:
+                out += ["WHAT"] if line else []
+            case ["SHOW"]:
+                out += ["JOB %d %d" % item for item in enumerate(times)] + ["TALLY %d %d" % tally]
+            case ["STEP", number]:
+                reply, times, tally = step(n, rules, latest, times, tally, number)
+                said(reply, "STEPPED %d %d %d" % (reply[1], *reply[3:]))
+            case ["BACK", *slip]:
+                reply, times, tally = step_back(n, rules, latest, times, tally, tuple(slip))
+                said(reply, "BACK")
+            case ["KEPT"]:
+                reply = kept(n, rules, latest, times)
+                said(reply, "KEPT", "BROKEN %d" % reply[1])
+            case ["TIGHT", number]:
+                reply = tight(n, rules, latest, times, number)
+                said(reply, ("NO", "YES")[reply[1] if reply[0] == 0 else 0])
+            case ["RULE", number]:
+                out.append("RULE %d %d %d %d %d" % (number, rules[number][0], rules[number][1], rules[number][3], rules[number][2])
+                    if number < len(rules) else "REFUSED 24 0")
+            case ["RUN"]:
+                reply, _ = solved(n, rules, latest, times)
+                said(reply, "PLAN %d" % reply[1], "NONE %d %d %d %d" % (*reply[2:], reply[1]))
+            case ["FRESH"]:
+                times, tally = list(latest), (0, 0)
+                out.append("FRESH")
+            case ["PLAN"]:
+                out.append(write_plan(times, bytes(8 * n), 0)[1].hex().upper())
+    return "".join(line + "\n" for line in out)
+
+
+def stored(name):
+    """A file that a program is run on."""
+    return open(os.path.join(os.path.dirname(os.path.abspath(__file__)), "..", "crates", name), "rb").read()
+
+
+def board_sessions():
+    """The sessions of `board_sessions`: each example's, under the name of the file of its lines, one of a rule in hours, and one of lines that are no commands."""
+    books = dict(EXAMPLES, L=(2, [(0, 1, 0, -1), (0, 0, 1, -3)], [0, 0]))
+    files = [(letter.lower(), book(*books[letter])) for letter in "ABCDEFGHIJLPQ"] + [("hours", b"BK\2\0HR\0\0\0\0\1\0\xff\xff"), ("what", book(*books["B"])), ("refused", b"BK\1\0RU")]
+    return "".join("%s.lines\n%s" % (name, board(data, stored("board_sessions/data/%s.lines" % name))) for name, data in files)
+
+
 PROGRAMS = {
     "examples": examples,
     "calls": calls,
     "limits": limits,
     "small_books": lambda: "".join(small_books(n, count) for n, count in ((2, 0), (2, 1), (2, 2), (3, 2))),
     "latest": lambda: text(book(*EXAMPLES["B"])),
+    "board": lambda: board(book(*EXAMPLES["B"]), stored("board/stdin")),
+    "board_sessions": board_sessions,
 }
 
 if __name__ == "__main__":

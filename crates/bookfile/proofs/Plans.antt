@@ -31,7 +31,7 @@ record_length : (job : ℕ) (time : ℤ) → length (plan_record job time) ≡ 8
 unfolding plan_record bytes_of
 record_length job time = refl
 
-plan_length : (job : ℕ) (times : List ℤ) → length (plan_from job times) ≡ length times * 8
+pub plan_length : (job : ℕ) (times : List ℤ) → length (plan_from job times) ≡ length times * 8
 unfolding plan_from
 plan_length job [] = refl
 plan_length job (t ∷ times) = omega (arith, length-append (plan_record job t) (plan_from (job + 1) times), record_length job t, plan_length (job + 1) times)

@@ -97,7 +97,7 @@ module _ (file : List ℕ) {counts : Counts} (e : file_reply file ≡ answer cou
   rules_are = (read_accepted file counts e).2
 
 -- 1,024 places hold the rules of any file that is not refused, and 256 its latest times
-read_same : (file : List ℕ) → read_reply file 1024 256 ≡ file_reply file
+pub read_same : (file : List ℕ) → read_reply file 1024 256 ≡ file_reply file
 unfolding read_reply roomed
 read_same file = go (file_reply file) refl
   where
@@ -109,7 +109,7 @@ read_same file = go (file_reply file) refl
 
 -- what the reader says with so many places, and what it leaves in them
 module _ (file : List ℕ) {counts : Counts} (said : answer counts ≡ read_reply file 1024 256) where
-  answered : file_reply file ≡ answer counts
+  pub answered : file_reply file ≡ answer counts
   answered = sym (said ∙ read_same file)
 
   pub room : (counts.rules ≤ 1024) × (counts.jobs ≤ 256)
@@ -126,10 +126,10 @@ module _ (file : List ℕ) {counts : Counts} (said : answer counts ≡ read_repl
 
     module _ {r : List Rule} {l : List ℤ} (p : r ≡ read_rules file rules latest) (q : l ≡ read_latest file rules latest) where
       -- the first places, as many as were counted
-      abbrev read : Book
+      abbrev pub read : Book
       read = let first = take counts.jobs l in book (length first) first (take counts.rules r)
 
-      read_is : read ≡ book_of_file file
+      pub read_is : read ≡ book_of_file file
       read_is = rw (p, q, rules_read, latest_read, (is_accepted file answered).size) refl
 
       pub accepted_read : Accepted read

@@ -4,6 +4,6 @@
 
 mod latest;
 mod lines;
-mod text;
+pub mod text;
 
 pub use latest::report;

@@ -36,7 +36,7 @@ impl Text<'_> {
         self.word(b"\n");
     }
 
-    fn job_lines(&mut self, times: &[i32])
+    pub fn job_lines(&mut self, times: &[i32])
         requires { (self.old.end < 2 ^ 30) × (length times.now ≤ most_jobs) }
         ensures written { Writes self.old (job_lines 0 times.now) self.new }
         ensures upper_bound { self.new.end ≤ self.old.end + 20480 }
