@@ -81,13 +81,13 @@ fn with_records(rt: &impl Print, times: usize, rules: usize) -> io::Result<()>
 }
 
 // A book of one record behind the head.
-fn one_record(rt: &impl Print, jobs: u16, record: &[u8]) -> io::Result<()>
-    requires { length record.now ≤ 12 }
+fn one_record(rt: &impl Print, jobs: u16, bytes: &[u8]) -> io::Result<()>
+    requires { length bytes.now ≤ 12 }
 {
     let mut file = [0; 16];
-    let end = 4 + record.len();
+    let end = 4 + bytes.len();
     file[..4].copy_from_slice(&book(jobs));
-    file[4..end].copy_from_slice(record);
+    file[4..end].copy_from_slice(bytes);
     show(rt, &file[..end])
 }
 
