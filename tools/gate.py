@@ -2,8 +2,8 @@
 """What the gate checks before `rt ci`: things that no proof sees. Run it in any folder; the status is 1 where something is not so.
 
 - The stored output of each test program is what tools/reference.py derives.
-- No public call has a `requires`: those of `planner`, its own and the ones that it passes on, those that `marlinfray` exports, and the
-  report."""
+- No public call has a `requires`: those of `planner`, its own and the ones that it passes on, those that `marlinfray` exports, the
+  report, the session, and those of `commands`."""
 
 import glob
 import os
@@ -56,6 +56,8 @@ def entry_points():
                 calls[f"{crate}{path}::{name}"] = functions(crate)[name]
     calls.update({f"marlinfray::{name}": c for name, c in functions("marlinfray").items()})
     calls["report::report"] = functions("report")["report"]
+    calls["session::session"] = functions("session")["session"]
+    calls.update({f"commands::{name}": c for name, c in functions("commands").items()})
     calls["maxatom::Rule::class"] = functions("maxatom")["class"]
     if len(calls) < 20:
         wrong.append(f"only {len(calls)} public calls were found: tools/gate.py does not read the source as it is written")

@@ -358,8 +358,8 @@ def refused(f):
 
 
 def read(data, places, latest_places):
-    """The reader, with so many places for rules and for latest times: its reply, and the rules and the latest times, a job each, where
-    the file is not refused."""
+    """The reader, lent a table of `places` rules and a list of `latest_places` latest times: its reply, and the rules and the latest
+    times, a job each, where the file is not refused."""
     f, latest, found = scan(data)
     if not f and (places < len(found) or latest_places < len(latest)):
         f = 21, 0

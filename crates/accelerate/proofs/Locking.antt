@@ -25,7 +25,7 @@ Steppable floor left time = (left <ℤ time) × (floor ≤ℤ left)
 pub steppable_fits : {floor left time : ℤ} → SFits w32 floor → SFits w32 time → Steppable floor left time → SFits w32 left
 steppable_fits f t h = fits_between f t h.1 (le_make (omega (arith, lt_read h.0)))
 
--- the same, of the numbers that the code compares
+-- a left side between floor and time, read off the numbers that the code compares
 pub read_between : {floor left time : ℤ} → SFits w32 floor → SFits w64 left → SFits w32 time →
     Steppable (to_z w32 (of_z w32 floor)) (to_z w64 (of_z w64 left)) (to_z w32 (of_z w32 time)) → Steppable floor left time
 read_between f l t h = rw (to_z-of_z f, to_z-of_z l, to_z-of_z t) at h

@@ -29,7 +29,7 @@ Good jobs given [] = Unit {0}
 Good jobs given (t ∷ more) =
     (t.job < jobs) × (latest_outside t.minute ≡ false) × (among t.job given ≡ false) × Good jobs (t.job ∷ given) more
 
--- the first of the latest times that were read from a byte on, and the others, read with so many looks
+-- the first of the latest times that were read from a byte on, and the others, read with `most` looks
 pub record First (most jobs : ℕ) (file given : List ℕ) (at : ℕ) (found : List LatestTime) : Type 0 where
   pub others : List LatestTime
   pub taken : latest_record_reply jobs file (among (decoded_latest file at).job given) at ≡ answer (decoded_latest file at)

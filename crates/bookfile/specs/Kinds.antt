@@ -10,7 +10,7 @@ use Rattle.bookfile.specs.declared.reading.LatestTime.{LatestTime}
 abbrev pub most_hours : ℕ
 most_hours = 336
 
--- 1: fewer than so many bytes, from the one where a record begins, are in the file
+-- 1: fewer than `size` bytes, from the one where a record begins, are in the file
 abbrev pub cut : ℕ → List ℕ → ℕ → Check
 cut size file at = check (ltb (length file) (at + size)) 1 at
 
@@ -22,7 +22,7 @@ pub record Kind (A : Type 0) : Type 0 where
   pub size : ℕ
   -- what a record of the kind says that begins at a byte of a file
   pub says : List ℕ → ℕ → A
-  -- the checks of the fields of a record, in order, in a book of so many jobs
+  -- the checks of the fields of a record, in order, of the job count, the file, and the byte where the record begins
   pub checks : ℕ → List ℕ → ℕ → List Check
 
 -- the checks of a record whose mark and place are right: that it is whole, then those of its fields

@@ -80,14 +80,14 @@ unfoldable pub read : {A : Type 0} → Reply (List A) → List A
 read (refused number place) = []
 read (answer found) = found
 
--- the latest times behind the first record, with so many looks; and the byte behind them
+-- the latest times behind the first record, with at most `most` looks; and the byte behind them
 abbrev pub latest_by : ℕ → List ℕ → Reply (List LatestTime)
 latest_by most file = latest_from most (word file 2) file [] BK.size
 
 unfoldable pub end_of : Reply (List LatestTime) → ℕ
 end_of latest = BK.size + length (read latest) * CE.size
 
--- reading a file, with so many looks for latest times and so many for rules
+-- reading a file, with at most `times` looks for latest times and `rules` for rules
 unfoldable pub reading : ℕ → ℕ → List ℕ → Reply (List Placed)
 reading times rules file =
     let latest = latest_by times file in
@@ -118,7 +118,7 @@ unfoldable pub minute_of : ℕ → List LatestTime → ℤ
 minute_of job [] = pos 0
 minute_of job (t ∷ more) = let rest = minute_of job more in cond (eqb t.job job) t.minute rest
 
--- the minutes of so many jobs, from a job on
+-- the minutes of the jobs from a job on, as many as the second number says
 unfoldable pub minutes_from : ℕ → ℕ → List LatestTime → List ℤ
 minutes_from job zero times = []
 minutes_from job (suc more) times = minute_of job times ∷ minutes_from (job + 1) more times

@@ -22,7 +22,7 @@ unfoldable pub roomed : ℕ → ℕ → Reply Counts → Reply Counts
 roomed rules latest (refused number place) = refused number place
 roomed rules latest (answer counts) = reply (room_checks rules latest counts) counts
 
--- the reader, lent a table of so many rules and a list of so many latest times
+-- the reader, lent a table with room for `rules` rules and a list with room for `latest` latest times
 unfoldable pub read_reply : List ℕ → ℕ → ℕ → Reply Counts
 read_reply file rules latest = roomed rules latest (file_reply file)
 

@@ -44,7 +44,7 @@ abbrev pub reader_checks : List ℕ → ℕ → ℕ → List Check
 reader_checks file rules latest =
     file_checks file ++ room_checks rules latest (record { jobs = word file 2; rules = length (entries file) })
 
--- The latest times of so many records, one behind another, from a byte on.
+-- The latest times of records that stand one behind another from a byte on, as many as the second number says.
 unfoldable pub times_at : List ℕ → ℕ → ℕ → List LatestTime
 times_at file at zero = []
 times_at file at (suc more) = CE.says file at ∷ times_at file (at + CE.size) more

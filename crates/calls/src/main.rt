@@ -422,22 +422,7 @@ fn backs(rt: &impl Print) -> io::Result<()> {
 }
 
 fn main(rt: HostRuntime) -> io::Result<()> {
-    for (name, file) in [
-        ("A", example_books::A),
-        ("B", example_books::B),
-        ("C", example_books::C),
-        ("D", example_books::D),
-        ("E", example_books::E),
-        ("F", example_books::F),
-        ("G", example_books::G),
-        ("H", example_books::H),
-        ("I", example_books::I),
-        ("J", example_books::J),
-        ("L", example_books::L),
-        ("P", example_books::P),
-        ("Q", example_books::Q),
-        ("R", example_books::R),
-    ] {
+    for (name, file) in example_books::NAMED {
         example(&rt, name, file)?;
     }
     step_of_l(&rt)?;

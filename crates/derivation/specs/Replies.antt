@@ -23,7 +23,7 @@ reply_of value (Err r) = refused (number_of r.fault) r.place
 abbrev pub slip_reply : Result Slip Refusal → Reply Slip
 slip_reply r = reply_of (λ slip. slip) r
 
--- it was done: fresh board, plan writer
+-- it was done: fresh board, step back, plan writer
 abbrev pub outcome_reply : Result ⊤ Refusal → Reply (Unit {0})
 outcome_reply r = reply_of (λ a. tt) r
 
@@ -51,7 +51,7 @@ solved_answer (Solve.None steps slip) = record { steps = steps; end = fell slip 
 abbrev pub solved_reply : Result Solved Refusal → Reply Answer
 solved_reply r = reply_of solved_answer r
 
--- what is lent to a hand step
+-- what is lent to a hand step or a step back
 abbrev pub state_of : List ℤ → Tally → State
 state_of times tally = record { times = times; tally = tally }
 

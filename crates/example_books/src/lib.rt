@@ -40,6 +40,24 @@ pub const Q: &[u8] =
 // A latest time alone sets a job.
 pub const R: &[u8] = b"BK\x02\x00CE\x01\x00\xc4\xff\xff\xff";
 
+// These examples, each under its name.
+pub const NAMED: [(&str, &[u8]); 14] = [
+    ("A", A),
+    ("B", B),
+    ("C", C),
+    ("D", D),
+    ("E", E),
+    ("F", F),
+    ("G", G),
+    ("H", H),
+    ("I", I),
+    ("J", J),
+    ("L", L),
+    ("P", P),
+    ("Q", Q),
+    ("R", R),
+];
+
 // A latest time of minute −20,160, for the last of two jobs.
 pub const EARLIEST: &[u8] = b"BK\x02\x00CE\x01\x00\x40\xb1\xff\xff";
 

@@ -83,22 +83,11 @@ fn hand_steps(rt: &impl Print) -> io::Result<()> {
 }
 
 fn main(rt: HostRuntime) -> io::Result<()> {
-    for (name, file) in [
-        ("A", example_books::A),
-        ("B", example_books::B),
-        ("C", example_books::C),
-        ("D", example_books::D),
-        ("E", example_books::E),
-        ("F", example_books::F),
-        ("G", example_books::G),
-        ("H", example_books::H),
-        ("I", example_books::I),
-        ("J", example_books::J),
-        ("P", example_books::P),
-        ("Q", example_books::Q),
-        ("R", example_books::R),
-    ] {
-        show(&rt, name, file)?;
+    for (name, file) in example_books::NAMED {
+        // Example L is a hand step, below.
+        if name != "L" {
+            show(&rt, name, file)?;
+        }
     }
     println!(rt; "L")?;
     hand_steps(&rt)?;

@@ -60,7 +60,7 @@ fn with_jobs(rt: &impl Print, jobs: u16) -> io::Result<()> {
     show(rt, &book(jobs))
 }
 
-// A book of 256 jobs: so many latest times of −20,160, from job 0 on and past the last job from job 0 again, and so many rules.
+// A book of 256 jobs: `times` latest times of −20,160, from job 0 on and past the last job from job 0 again, and `rules` rules.
 fn with_records(rt: &impl Print, times: usize, rules: usize) -> io::Result<()>
     requires { (times ≤ 257) × (rules ≤ 1025) }
 {

@@ -177,7 +177,7 @@ module _ (b : Book) (times : List ℤ) {k : ℕ} (e : answer k ≡ checks_reply 
   pub sound : Sound b times k
   sound = let (a, n) = times_accepted (total b.rules) b times answers in record { accepted = a; size = n; sum = same (e ∙ answers) }
 
-  -- the list and the times are as long as each other, and the book is one of so many jobs
+  -- the list and the times are as long as each other, and the book has as many jobs as the list has places
   pub listed : Accepted (book (length b.latest) b.latest b.rules)
   listed = rw sound.accepted.size sound.accepted
 

@@ -107,7 +107,7 @@ read_same file = go (file_reply file) refl
         accepting (room_checks 1024 256 counts) counts
         (le-ltb 1024 counts.rules (few_rules file e), (le-ltb 256 counts.jobs (few_jobs file e), tt))
 
--- what the reader says with so many places, and what it leaves in them
+-- what the reader says of a table of 1,024 places and a list of 256, and what it leaves in them
 module _ (file : List ℕ) {counts : Counts} (said : answer counts ≡ read_reply file 1024 256) where
   pub answered : file_reply file ≡ answer counts
   answered = sym (said ∙ read_same file)
