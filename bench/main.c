@@ -835,12 +835,14 @@ static int everyday(const Family *f) {
 
 enum { STACK = 1 << 20, PAINT = 0xa5 };
 
-// What the calls are given whose stack is counted: a book of the most jobs and rules, its file and the bytes of its plan.
+// What the calls are given whose stack is counted: a book of the most jobs and rules, its file, a stored file with as many rules in hours
+// and the file that it is converted to, and the bytes of the plan.
 static Book *stack_book;
 static marlinfray_rule stack_rules[RULES];
 static int32_t stack_latest[JOBS];
-static uint8_t stack_file[MARLINFRAY_FILE_BYTES], stack_bytes[MARLINFRAY_PLAN_BYTES * JOBS];
-static size_t stack_length;
+static uint8_t stack_file[MARLINFRAY_FILE_BYTES], stack_stored[MARLINFRAY_FILE_BYTES], stack_converted[MARLINFRAY_FILE_BYTES];
+static uint8_t stack_bytes[MARLINFRAY_PLAN_BYTES * JOBS];
+static size_t stack_length, stack_stored_length;
 static Out stack_out;
 static marlinfray_tally stack_tally;
 static marlinfray_slip stack_slip;
@@ -860,6 +862,11 @@ static int read_book_call(void) {
 
 static int record_call(void) {
     marlinfray_record(stack_file, stack_length, RULES - 1, &stack_out.reply);
+    return 0;
+}
+
+static int convert_call(void) {
+    marlinfray_convert(stack_stored, stack_stored_length, stack_converted, sizeof stack_converted, &stack_out.reply);
     return 0;
 }
 
@@ -945,9 +952,11 @@ static int stacks(void) {
         const char *name;
         Body *body;
     } calls[] = {
-        {"read_book", read_book_call}, {"record", record_call},   {"class", class_call}, {"first_violated", first_violated_call},
-        {"is_tight", is_tight_call},   {"initial", initial_call}, {"step", step_call},   {"step_back", step_back_call},
-        {"write_plan", write_plan_call},
+        {"read_book", read_book_call}, {"record", record_call},
+        {"convert", convert_call},     {"class", class_call},
+        {"first_violated", first_violated_call}, {"is_tight", is_tight_call},
+        {"initial", initial_call},     {"step", step_call},
+        {"step_back", step_back_call}, {"write_plan", write_plan_call},
     };
     const Family f = {"", random_latest, OFFSET, JOBS, RULES, 0, 29};
     const Book *b = stack_book = make(&f, f.offset, 0);
@@ -957,6 +966,13 @@ static int stacks(void) {
     for (size_t i = 0; i < RULES; i++) {
         marlinfray_rule r = b->rules[i];
         put16('R' | 'U' << 8), put16(r.x), put16(r.y), put16(r.z), put16(r.k), put16(r.k >> 16);
+    }
+    size_t head = 4 + 8 * JOBS;
+    memcpy(stack_stored, stack_file, stack_stored_length = head);
+    for (size_t i = 0; i < RULES; i++, stack_stored_length += 10) {
+        uint8_t *record = stack_stored + stack_stored_length;
+        memcpy(record, stack_file + head + 12 * i, 8);
+        memcpy(record, "HR", 2), memcpy(record + 8, "\xff\xff", 2);
     }
     memcpy(stack_out.times, b->latest, sizeof stack_out.times);
     straight_first_violated(JOBS, b->rules, RULES, b->latest, JOBS, stack_out.times, JOBS, &stack_out.reply);

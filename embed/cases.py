@@ -26,6 +26,7 @@ HUGE = 2**16, 2**32 - 1, 2**32, 2**32 + 1, 2**63, MOST - 7, MOST
 
 REFUSALS = {
     "read_book": {1, 2, 3, 4, 5, 6, 7, 8, 9, 21},
+    "convert": {1, 2, 3, 4, 5, 6, 7, 8, 9, 21},
     "first_violated": {4, 5, 6, 7, 8, 21},
     "is_tight": {4, 5, 6, 7, 8, 21, 24},
     "initial": {4, 8, 21},
@@ -80,6 +81,12 @@ def read_book(data, places, latest_places):
 
 def record(data, rule):
     line("record", ref.record(data, rule), lent(data), number(rule))
+
+
+def convert(data, room):
+    reply, written = ref.convert(data, room)
+    before = rng.randbytes(room)
+    line("convert", reply, lent(data), lent(before, written + before[len(written) :]))
 
 
 def class_of(x, y, z, k):
@@ -543,14 +550,15 @@ def plans():
 # ---- files
 
 
-def rule_record(x, y, z, k):
+def stored_record(x, y, z, k):
+    """The record of a rule in a stored file, mostly in hours where it can be."""
     if k % 60 == 0 and abs(k) <= 60 * HOURS and rng.random() < 0.8:
-        return struct.pack("<2s3Hh", b"HR", x, y, z, k // 60)
-    return struct.pack("<2s3Hi", b"RU", x, y, z, k)
+        return ref.hours_record(x, y, z, k // 60)
+    return ref.rule_record(x, y, z, k)
 
 
-def book_file(n, rules, latest=()):
-    """The bytes of a book, with records for some of the latest times of zero too, in any order."""
+def book_file(n, rules, latest=(), rule_record=ref.rule_record):
+    """The bytes of a book, its rules written by `rule_record`, with records for some of the latest times of zero too, in any order."""
     jobs = [job for job, minute in enumerate(latest) if minute or rng.random() < 0.1]
     rng.shuffle(jobs)
     times = [ref.latest_record(job, latest[job]) for job in jobs]
@@ -577,20 +585,20 @@ def damaged(data):
         elif kind == 5:
             data = data[:4] + ref.latest_record(rng.randrange(4), rng.choice((0, -1, -OFFSET, 1, -OFFSET - 1))) + data[4:]
         else:
-            more = rule_record(0, 0, 0, 60), rule_record(9, 0, 0, -1), ref.latest_record(0, 0)
+            more = stored_record(0, 0, 0, 60), ref.rule_record(9, 0, 0, -1), ref.latest_record(0, 0)
             data += rng.choice((b"BK\1\0", b"RU", b"HR", b"CE", b"B", b"RK", *more))
     return data
 
 
-def limit_files():
-    """Files at and past each limit."""
+def limit_files(rule_record):
+    """Files at and past each limit, their rules written by `rule_record`."""
     for n in (0, 1, 256, 257, 65535):
         yield book_file(n, [])
     head = book_file(256, [])
     for hours in (HOURS, HOURS + 1, -HOURS, -HOURS - 1, 2**15 - 1, -(2**15)):
-        yield head + struct.pack("<2s3Hh", b"HR", 0, 0, 0, hours)
+        yield head + ref.hours_record(0, 0, 0, hours)
     for k in (OFFSET, OFFSET + 1, -OFFSET, -OFFSET - 1, 2**31 - 1, -(2**31)):
-        yield head + struct.pack("<2s3Hi", b"RU", 0, 0, 0, k)
+        yield head + ref.rule_record(0, 0, 0, k)
     for jobs in ((255, 255, 255), (256, 0, 0), (0, 256, 0), (0, 0, 256), (65535, 0, 0)):
         for k in (0, 60, OFFSET + 1):
             yield head + rule_record(*jobs, k)
@@ -611,11 +619,13 @@ def limit_files():
         yield book_file(1, []) + early
     yield book_file(1, []) + time + book_file(1, [])
     three = [(0, 1, 2, 60), (2, 1, 0, -1), (1, 1, 1, 120)]
-    for whole in (book_file(3, three), book_file(3, three, [-1, -OFFSET, -300])):
+    for latest in ((), [-1, -OFFSET, -300]):
+        whole = book_file(3, three, latest, rule_record)
         for length in range(len(whole) + 1):
             yield whole[:length]
     most = any_rules(256, RULES, OFFSET)
-    for whole in (ref.book(1, [(0, 0, 0, 0)] * RULES), book_file(256, most), book_file(256, most, [-OFFSET] * 256)):
+    for book in ((1, [(0, 0, 0, 0)] * RULES), (256, most), (256, most, [-OFFSET] * 256)):
+        whole = book_file(*book, rule_record=rule_record)
         yield whole
         for more in (b"R", b"RU", b"HR", b"CE", b"BK", b"XX", rule, rule * 600, time):
             yield whole + more
@@ -626,13 +636,14 @@ def limit_files():
 
 
 def files():
-    """Books and damaged books, and those at the limits."""
-    for books in (small_books(), large_books()):
-        for book in books:
-            data = book_file(*book)
-            yield data
-            yield damaged(data)
-    yield from limit_files()
+    """Books and damaged books, and those at the limits: first sent files, then stored ones."""
+    for rule_record in (ref.rule_record, stored_record):
+        for books in (small_books(), large_books()):
+            for book in books:
+                data = book_file(*book, rule_record)
+                yield data
+                yield damaged(data)
+        yield from limit_files(rule_record)
 
 
 def file_calls():
@@ -646,6 +657,10 @@ def file_calls():
         for rule in {0, max(count - 1, 0), rng.choice((count, MOST, rng.choice(HUGE), rng.randrange(count + 1)))}:
             if few or rule:
                 record(data, rule)
+        (kind, length, *_), _ = ref.convert(data, 2**14)
+        others = 0, 4, length + 1, rng.randrange(length + 1), rng.randrange(2 * length + 1)
+        for room in {0, len(data) + 9} if kind else {length, length - 1, rng.choice(others)}:
+            convert(data, room)
 
 
 # ---- the program

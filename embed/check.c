@@ -58,10 +58,11 @@ static uint8_t guards[ROOM]; // what stands in a room outside the buffer
 static const struct {
     const char *name, *types;
 } calls[] = {
-    {"read_book", "brt"}, {"record", "bn"},   {"class", "nnnn"},       {"first_violated", "nrtt"}, {"is_tight", "nrttn"},
-    {"initial", "ntt"},   {"step", "nrttan"}, {"step_back", "nrttas"}, {"solve", "nrtt"},          {"write_plan", "tbn"},
+    {"read_book", "brt"},  {"record", "bn"},   {"convert", "bb"},  {"class", "nnnn"},       {"first_violated", "nrtt"},
+    {"is_tight", "nrttn"}, {"initial", "ntt"}, {"step", "nrttan"}, {"step_back", "nrttas"}, {"solve", "nrtt"},
+    {"write_plan", "tbn"},
 };
-enum { READ_BOOK, RECORD, CLASS, FIRST_VIOLATED, IS_TIGHT, INITIAL, STEP, STEP_BACK, SOLVE, WRITE_PLAN, CALLS };
+enum { READ_BOOK, RECORD, CONVERT, CLASS, FIRST_VIOLATED, IS_TIGHT, INITIAL, STEP, STEP_BACK, SOLVE, WRITE_PLAN, CALLS };
 
 static size_t size_of(char type) {
     switch (type) {
@@ -159,6 +160,7 @@ static void call(int c) {
     switch (c) {
     case READ_BOOK: marlinfray_read_book(lent[0], a[0].length, lent[1], a[1].length, lent[2], a[2].length, r); break;
     case RECORD: marlinfray_record(lent[0], a[0].length, a[1].number, r); break;
+    case CONVERT: marlinfray_convert(lent[0], a[0].length, lent[1], a[1].length, r); break;
     case CLASS: *r = (marlinfray_reply){.kind = marlinfray_class(a[0].number, a[1].number, a[2].number, a[3].number)}; break;
     case FIRST_VIOLATED:
         marlinfray_first_violated(a[0].number, lent[1], a[1].length, lent[2], a[2].length, lent[3], a[3].length, r);

@@ -39,7 +39,7 @@ enum {
     MARLINFRAY_MAX_JOBS = 256,
     MARLINFRAY_MAX_RULES = 1024,
     MARLINFRAY_MAX_OFFSET = 20160,  /* minutes, of either sign */
-    MARLINFRAY_MAX_HOURS = 336,     /* of an HR record in a file, of either sign */
+    MARLINFRAY_MAX_HOURS = 336,     /* of an HR record, which marlinfray_convert alone takes, of either sign */
     MARLINFRAY_MIN_LATEST = -20160, /* minutes; the largest latest time is 0 */
     MARLINFRAY_FILE_BYTES = 16384,  /* the reply to a longer file is the reply to its first 16,384 bytes */
     MARLINFRAY_PLAN_BYTES = 8       /* what a written plan takes for each job */
@@ -86,7 +86,7 @@ enum {
 enum {
     /* Of a file. The place is the byte where the record begins. Numbers 4 to 8 are said of a file as well. */
     MARLINFRAY_REFUSED_END = 1,    /* the file ends inside a record, or before the record BK */
-    MARLINFRAY_REFUSED_MARK = 2,   /* a record's mark is none of BK, CE, RU and HR */
+    MARLINFRAY_REFUSED_MARK = 2,   /* a record's mark is none of BK, CE and RU; at marlinfray_convert, nor HR */
     MARLINFRAY_REFUSED_HEAD = 3,   /* the first record is not BK, or a later one is, or a CE stands behind a rule */
     MARLINFRAY_REFUSED_SECOND = 9, /* there is a second CE for one job */
 
@@ -94,7 +94,7 @@ enum {
     MARLINFRAY_REFUSED_JOBS = 4,   /* the job count is not from 1 to 256 */
     MARLINFRAY_REFUSED_RULES = 5,  /* there is a rule past the 1,024th */
     MARLINFRAY_REFUSED_JOB = 6,    /* a rule, or a CE, names a job that the book has not */
-    MARLINFRAY_REFUSED_OFFSET = 7, /* an offset is beyond 20,160 minutes, or 336 hours, of either sign */
+    MARLINFRAY_REFUSED_OFFSET = 7, /* an offset is beyond 20,160 minutes of either sign; at marlinfray_convert, or 336 hours */
     MARLINFRAY_REFUSED_LATEST = 8, /* a latest time is not from -20,160 to 0 */
 
     /* Of what is held. The place is 0. */
@@ -123,8 +123,8 @@ enum {
  *   "BK", the job count (16 bits)                                   4 bytes, the first record and only there
  *   "CE", a job (16 bits), its latest time (32 bits signed)         8 bytes, before the first rule, one for a job at most
  *   "RU", x, y, z (16 bits each), k (32 bits signed)                12 bytes, a rule
- *   "HR", x, y, z (16 bits each), hours (16 bits signed)            10 bytes, a rule whose k is 60 times the hours
  *
+ * A stored file with an HR is refused with 2: marlinfray_convert comes first.
  * Done: `first` is the job count and `second` the rule count. The table's first entries are the rules (the bytes between z and k
  * may be any), the list's first times are the latest times, 0 for a job without a CE, and what stands behind them is as it was.
  * Refused: 1 to 9, the first record at fault deciding; then 21, where the table has fewer entries than the file has rules, or the
@@ -136,10 +136,24 @@ void marlinfray_read_book(const uint8_t *file, size_t file_len, marlinfray_rule 
 
 /*
  * Finds a rule's record in a file.
- * Done, always: `first` is the byte where the record of that rule begins and `second` its length in bytes, mark included, 10 or 12.
+ * Done, always: `first` is the byte where the record of that rule begins and `second` its length in bytes, mark included, which is 12.
  * Both are 0 where marlinfray_read_book would refuse the file for its bytes (1 to 9), or where it holds no rule of that number.
  */
 void marlinfray_record(const uint8_t *file, size_t file_len, size_t number, marlinfray_reply *reply);
+
+/*
+ * Converts a stored file, which may have rules in hours, to one that marlinfray_read_book takes. A stored file has the records that
+ * are said there, and for a rule also
+ *
+ *   "HR", x, y, z (16 bits each), hours (16 bits signed)            10 bytes, a rule whose k is 60 times the hours
+ *
+ * The records are written from the output's first byte on, in their order: each as it is, but for an HR the RU of its rule. So the
+ * converted file has the job count, the latest times and the rules of the stored one, and a file without an HR is converted to itself.
+ * Done: `first` is the number of bytes written, and those behind them are as they were.
+ * Refused: 1 to 9, the first record at fault deciding; then 21, where the output is shorter than the converted file.
+ * An output of MARLINFRAY_FILE_BYTES is always long enough.
+ */
+void marlinfray_convert(const uint8_t *file, size_t file_len, uint8_t *out, size_t out_len, marlinfray_reply *reply);
 
 /* The class of a rule, whatever its numbers: MARLINFRAY_TAUTOLOGY, _CONTRADICTION, _DIFFERENCE or _DISJUNCTIVE. */
 uint8_t marlinfray_class(uint16_t x, uint16_t y, uint16_t z, int32_t k);

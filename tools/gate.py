@@ -2,8 +2,8 @@
 """What the gate checks before `rt ci`: things that no proof sees. Run it in any folder; the status is 1 where something is not so.
 
 - The stored output of each test program is what tools/reference.py derives.
-- No public call has a `requires`: those of `planner`, its own and the ones that it passes on, those that `marlinfray` exports, the
-  report, the session, and those of `commands`."""
+- No public call has a `requires`: those of `planner`, its own and the ones that it passes on, the converter, those that `marlinfray`
+  exports, the report, the session, and those of `commands`."""
 
 import glob
 import os
@@ -11,7 +11,7 @@ import re
 import subprocess
 import sys
 
-PROGRAMS = ("examples", "calls", "limits", "small_books", "latest", "board", "board_sessions")
+PROGRAMS = ("examples", "calls", "limits", "small_books", "latest", "convert", "board", "board_sessions")
 wrong = []
 
 
@@ -54,6 +54,7 @@ def entry_points():
         for name in re.findall(r"\w+", names):
             if name[0].islower() and crate not in modules:
                 calls[f"{crate}{path}::{name}"] = functions(crate)[name]
+    calls.update({f"converter::{name}": c for name, c in functions("converter").items()})
     calls.update({f"marlinfray::{name}": c for name, c in functions("marlinfray").items()})
     calls["report::report"] = functions("report")["report"]
     calls["session::session"] = functions("session")["session"]

@@ -1,6 +1,6 @@
 #!/usr/bin/env python3
-"""What the programs `examples`, `calls`, `limits`, `small_books` and `latest` must write, and what each call of the library must
-answer, worked out apart from the code they test.
+"""What the test programs, `latest`, `convert` and `board` must write, and what each call of the library must answer, worked out apart
+from the code they test.
 
     python3 tools/reference.py NAME
 
@@ -41,6 +41,11 @@ def latest_record(job, minute):
 def rule_record(x, y, z, k):
     """The record of a rule, by its minutes."""
     return struct.pack("<2sHHHi", b"RU", x, y, z, k)
+
+
+def hours_record(x, y, z, hours):
+    """The record of a rule, by its hours, in a stored file."""
+    return struct.pack("<2sHHHh", b"HR", x, y, z, hours)
 
 
 def rule_of(part):
@@ -301,24 +306,27 @@ def small_books(n, count):
     return out
 
 
-SIZES = {b"BK": 4, b"CE": 8, b"RU": 12, b"HR": 10}
+# The bytes in all of each record, by its mark: in a file that is sent, which the reader takes, and in a stored one, which the converter
+# takes.
+SENT = {b"BK": 4, b"CE": 8, b"RU": 12}
+STORED = {**SENT, b"HR": 10}
 
 
-def scan(data):
-    """The reader's walk through a file: the number and the byte of the first fault, or None; the latest times; and for each rule the
-    byte where its record begins, the record's length and the rule."""
+def scan(data, sizes):
+    """A walk through a file whose records have these marks and sizes: the number and the byte of the first fault, or None; the latest
+    times; and for each rule the byte where its record begins, the record's length and the rule."""
     at, latest, said, found = 0, None, set(), []
     while at < len(data) or latest is None:
         mark = data[at : at + 2]
         if len(mark) < 2:
             return (1, at), latest, found
-        if mark not in SIZES:
+        if mark not in sizes:
             return (2, at), latest, found
         if (mark == b"BK") != (latest is None) or (mark == b"CE" and found):
             return (3, at), latest, found
-        if mark in (b"RU", b"HR") and len(found) == MOST_RULES:
+        if mark not in (b"BK", b"CE") and len(found) == MOST_RULES:
             return (5, at), latest, found
-        size = SIZES[mark]
+        size = sizes[mark]
         if at + size > len(data):
             return (1, at), latest, found
         if mark == b"BK":
@@ -360,7 +368,7 @@ def refused(f):
 def read(data, places, latest_places):
     """The reader, lent a table of `places` rules and a list of `latest_places` latest times: its reply, and the rules and the latest
     times, a job each, where the file is not refused."""
-    f, latest, found = scan(data)
+    f, latest, found = scan(data, SENT)
     if not f and (places < len(found) or latest_places < len(latest)):
         f = 21, 0
     return (refused(f), [], []) if f else (answered(0, len(latest), len(found)), [rule for _, _, rule in found], latest)
@@ -368,8 +376,20 @@ def read(data, places, latest_places):
 
 def record(data, number):
     """A rule's record: the byte where it begins and its length, both 0 where there is none."""
-    f, _, found = scan(data)
+    f, _, found = scan(data, SENT)
     return answered(0, *found[number][:2]) if not f and number < len(found) else answered(0)
+
+
+def convert(data, room):
+    """The converter, lent an output of `room` bytes: its reply, whose answer is the length written, and the bytes written from byte 0 of
+    the output on, none where the file is refused."""
+    f, _, found = scan(data, STORED)
+    if f:
+        return refused(f), b""
+    rules = found[0][0] if found else len(data)
+    parts = [(data[at : at + size], rule) for at, size, rule in found]
+    out = data[:rules] + b"".join(rule_record(*rule) if part[:2] == b"HR" else part for part, rule in parts)
+    return (refused((21, 0)), b"") if room < len(out) else (answered(0, len(out)), out)
 
 
 def fault(n, rules, latest, times):
@@ -512,6 +532,10 @@ def words(reply, *answers):
 
 def read_word(reply):
     return words(reply, " BOOK {} {}")
+
+
+def converted_word(reply):
+    return words(reply, " CONVERTED {}")
 
 
 def solved_word(reply):
@@ -663,6 +687,10 @@ def latest_limits():
 EARLIEST = book(2, [], [0, -20160])
 
 
+# A stored book: a latest time, and three rules, of which the first and the last are in hours.
+IN_HOURS = book(2, [], [0, -60]) + hours_record(0, 0, 1, -1) + rule_record(0, 1, 0, -1) + hours_record(1, 1, 0, 2)
+
+
 # Boards of two jobs and tallies, and slips for steps back. The rule puts job 1 three minutes before job 0, and the latest times are 0
 # and -2, so that the floor is -5 and times may be from -8.
 BACKS = [
@@ -740,10 +768,18 @@ def calls():
 
 
 def limits():
-    """Files and plans at and past each limit: what the reader and the plan writer answer."""
+    """Files and plans at and past each limit: what the reader, the converter and the plan writer answer."""
 
     def reads(data):
         return read_word(read(data, MOST_RULES, MOST_JOBS)[0])
+
+    def converts(name, data, room):
+        """What the converter answers and the output that it leaves, each byte of which was 7."""
+        reply, out = convert(data, room)
+        return "convert %s into %d bytes:" % (name, room) + converted_word(reply) + minutes_word("OUT", out + b"\7" * (room - len(out)))
+
+    def in_hours(n, z, hours):
+        return book(n, []) + hours_record(0, 0, z, hours)
 
     def writes(n, at):
         return words(write_plan([0] * n, bytes(2048), at)[0], " WRITTEN")
@@ -753,12 +789,23 @@ def limits():
         data = book(256, []) + b"".join(latest_record(i % 256, -20160) for i in range(times)) + rule_record(0, 0, 0, 0) * count
         lines.append("latest times %d, rules %d:" % (times, count) + reads(data))
     lines += ["offset bits %d:" % (k % 2**32) + reads(book(1, [(0, 0, 0, k)])) for k in (20160, 20161, -20160, -20161)]
-    lines += ["hours bits %d:" % (h % 2**16) + reads(book(1, []) + struct.pack("<2sHHHh", b"HR", 0, 0, 0, h)) for h in (336, 337, -336, -337)]
+    lines += ["a record in hours:" + reads(in_hours(1, 0, 0)), "hours first:" + reads(hours_record(0, 0, 0, 0))]
     lines += ["job of 256, %d:" % z + reads(book(256, [(0, 0, z, 0)])) for z in (255, 256)]
     lines += ["latest times, %s:" % name + reads(data) for name, data in latest_limits()]
     lines += ["cut off at %d:" % length + reads(EARLIEST[:length]) for length in range(len(EARLIEST) + 1)]
     lines += ["42 4B 01 00 52:" + reads(b"\x42\x4b\x01\0\x52"), "no byte:" + reads(b"")]
-    lines += ["times %d at %d:" % c + writes(*c) for c in ((0, 0), (1, 0), (256, 0), (256, 1), (257, 0), (1, 2040), (1, 2041), (1, 2049), (1, 2**64 - 1))]
+    for h, room in ((336, 16), (337, 16), (-336, 16), (-337, 16), (336, 0), (336, 15), (336, 20), (337, 15)):
+        lines.append(converts("hours bits %d" % (h % 2**16), in_hours(1, 0, h), room))
+    lines.append(converts("hours first", hours_record(0, 0, 0, 0), 16))
+    lines += [converts("job of 256, %d" % z, in_hours(256, z, 0), 16) for z in (255, 256)]
+    for count, room in ((1024, 14340), (1024, 14339), (1025, 14352)):
+        data = book(256, []) + b"".join(latest_record(i, -20160) for i in range(256)) + hours_record(0, 0, 0, 0) * count
+        lines.append("convert latest times 256, rules %d into %d bytes:" % (count, room) + converted_word(convert(data, room)[0]))
+    lines += [converts("hours and minutes", IN_HOURS, room) for room in (47, 48, 49)]
+    lines += [converts("latest times, " + name, data, 28) for name, data in latest_limits()]
+    lines += [converts("cut off at %d" % length, in_hours(2, 1, -1)[:length], 16) for length in range(15)]
+    plans = (0, 0), (1, 0), (256, 0), (256, 1), (257, 0), (1, 2040), (1, 2041), (1, 2049), (1, 2**64 - 1)
+    lines += ["times %d at %d:" % c + writes(*c) for c in plans]
     return "\n".join(lines) + "\n"
 
 
@@ -837,10 +884,18 @@ def stored(name):
 
 
 def board_sessions():
-    """The sessions of `board_sessions`: each example's, under the name of the file of its lines, one of a rule in hours, and one of lines that are no commands."""
+    """The sessions of `board_sessions`: each example's, under the name of the file of its lines, one on lines that are no commands, and
+    two on files that are refused, of which one has a rule in hours."""
     books = dict(EXAMPLES, L=(2, [(0, 1, 0, -1), (0, 0, 1, -3)], [0, 0]))
-    files = [(letter.lower(), book(*books[letter])) for letter in "ABCDEFGHIJLPQ"] + [("hours", b"BK\2\0HR\0\0\0\0\1\0\xff\xff"), ("what", book(*books["B"])), ("refused", b"BK\1\0RU")]
+    files = [(letter.lower(), book(*books[letter])) for letter in "ABCDEFGHIJLPQ"]
+    files += [("hours", book(2, []) + hours_record(0, 0, 1, -1)), ("what", book(*books["B"])), ("refused", b"BK\1\0RU")]
     return "".join("%s.lines\n%s" % (name, board(data, stored("board_sessions/data/%s.lines" % name))) for name, data in files)
+
+
+def converted(data):
+    """What `convert` prints for a file on standard output, and on standard error."""
+    reply, out = convert(data, 2**14)
+    return out, "REFUSED %d %d\n" % reply[1:3] if reply[0] == 2 else ""
 
 
 PROGRAMS = {
@@ -851,7 +906,9 @@ PROGRAMS = {
     "latest": lambda: text(book(*EXAMPLES["B"])),
     "board": lambda: board(book(*EXAMPLES["B"]), stored("board/stdin")),
     "board_sessions": board_sessions,
+    "convert": lambda: converted(stored("convert/stdin"))[0],
 }
 
 if __name__ == "__main__":
-    sys.stdout.write(PROGRAMS[sys.argv[1] if 1 < len(sys.argv) else "examples"]())
+    out = PROGRAMS[sys.argv[1] if 1 < len(sys.argv) else "examples"]()
+    sys.stdout.buffer.write(out if isinstance(out, bytes) else out.encode())

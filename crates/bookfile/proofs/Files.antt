@@ -21,4 +21,7 @@ file_examples =
       latest_behind = refl;
       cut_mark = refl;
       no_byte = refl;
+      hours = refl;
+      hours_stored = refl;
+      book_hours = refl;
     }

@@ -2,7 +2,7 @@
 use mathlib.Core.Path.{◌≡◌, refl, sym, ap, ◌∙◌}
 use mathlib.Core.Bool.{Bool, true, false, cond, ◌||◌}
 use mathlib.Core.List.{List, [], ◌∷◌}
-use Prim.Native.Nat.{ℕ, zero, suc, ◌+◌, ◌<◌, ◌≤◌}
+use Prim.Native.Nat.{ℕ, zero, suc, ◌+◌, ◌*◌, ◌<◌, ◌≤◌}
 use native.Mathlib.Omega.{arith}
 use native.Mathlib.Decide.{ℕ_discrete}
 use borrow.Author.Tests.{eq-eqb, ne_eqb}
@@ -15,10 +15,11 @@ use Rattle.maxatom.specs.Book.{most_jobs}
 use Rattle.maxatom.proofs.Choose.{clash}
 use Rattle.derivation.specs.Refusals.{Reply, refused, answer, latest_outside}
 use Rattle.derivation.proofs.Checks.{answer_not}
+use Rattle.bookfile.specs.declared.mark.Form.{Form}
 use Rattle.bookfile.specs.declared.reading.LatestTime.{LatestTime}
 use Rattle.bookfile.specs.Numbers.{word}
 use Rattle.bookfile.specs.Kinds.{decoded_latest, among}
-use Rattle.bookfile.specs.Reading.{latest_here, latest_record_reply, before, latest_from, read, latest_records, minute_of, minutes_from, latest_of_file}
+use Rattle.bookfile.specs.Reading.{latest_here, latest_record_reply, before, latest_from, read, end_of, latest_records, rules_begin, minute_of, minutes_from, latest_of_file}
 use Rattle.bookfile.specs.Inner.{Listed}
 use Rattle.bookfile.proofs.Latest.{latest_is, latest_in_file, latest_in_book, latest_in_bounds, latest_first, times_more, times_end}
 use Rattle.bookfile.proofs.Walks.{listed_long, minutes_length}
@@ -75,6 +76,27 @@ good_from (suc most) jobs file given at found e =
         rw s.is
         (latest_in_book jobs file _ at s.taken, latest_in_bounds jobs file _ at s.taken, latest_first jobs file _ at s.taken, f s.others s.more)
     go false h f = rw (none_of most jobs file given at found e h) tt
+
+-- the records of latest times are in the file
+times_inside : (most jobs : ℕ) (file given : List ℕ) (at : ℕ) (found : List LatestTime) → at ≤ length file →
+    latest_from most jobs file given at ≡ answer found → at + length found * 8 ≤ length file
+unfolding latest_from
+times_inside zero jobs file given at found h e = absurd (answer_not (sym e))
+times_inside (suc most) jobs file given at found h e =
+    go (latest_here file at) refl (λ others k f. times_inside most jobs file ((decoded_latest file at).job ∷ given) (at + 8) others k f)
+  where
+    go : (t : Bool) → latest_here file at ≡ t →
+        ((others : List LatestTime) → at + 8 ≤ length file →
+        latest_from most jobs file ((decoded_latest file at).job ∷ given) (at + 8) ≡ answer others → at + 8 + length others * 8 ≤ length file) →
+        at + length found * 8 ≤ length file
+    go true q f =
+        let s = first_of most jobs file given at found e q in
+        omega (arith, ap length s.is, f s.others (latest_in_file jobs file _ at s.taken) s.more)
+    go false q f = omega (arith, ap length (none_of most jobs file given at found e q))
+
+pub begin_inside : (form : Form) (file : List ℕ) → Listed form file → rules_begin file ≤ length file
+unfolding end_of
+begin_inside form file l = times_inside (most_jobs + 1) (word file 2) file [] 4 (read (latest_records file)) (listed_long form file l) l.times
 
 -- each latest time stored in its job's place
 unfoldable pub put : List LatestTime → List ℤ → List ℤ
@@ -159,14 +181,14 @@ pub record Filled (file : List ℕ) (at : ℕ) (times : List ℤ) : Type 0 where
   pub reads : latest_from most (word file 2) file given at ≡ answer found
   pub rest : put found times ≡ latest_of_file file
 
-pub filled_none : (file : List ℕ) {times : List ℤ} → Listed file → times ≡ replicate (word file 2) (pos 0) → Filled file 4 times
+pub filled_none : (form : Form) (file : List ℕ) {times : List ℤ} → Listed form file → times ≡ replicate (word file 2) (pos 0) → Filled file 4 times
 unfolding latest_of_file
-filled_none file l e =
+filled_none form file l e =
     record {
       given = [];
       most = most_jobs + 1;
       found = read (latest_records file);
-      low = listed_long file l;
+      low = listed_long form file l;
       size = rw e (length-replicate (word file 2) (pos 0));
       reads = l.times;
       rest =

@@ -11,5 +11,6 @@ pub mod Filling
 pub mod Stretches
 pub mod Tables
 pub mod Prefix
+pub mod Openings
 pub mod Files
 pub mod Refusing

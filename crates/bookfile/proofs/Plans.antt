@@ -15,7 +15,8 @@ use Rattle.std.specs.Int.{w16, w32, to_le_bytes}
 use Rattle.derivation.specs.Refusals.{Reply, refused, answer, Check, check, verdict, lent, jobs_check}
 use Rattle.derivation.proofs.Checks.{says, skips, accepting}
 use Rattle.bookfile.specs.Numbers.{bytes_of, unsigned32}
-use Rattle.bookfile.specs.Writing.{plan_record, plan_from, plan_checks, with_records, plan_out}
+use Rattle.maxatom.specs.declared.Rule.{Rule}
+use Rattle.bookfile.specs.Writing.{rule_record, plan_record, plan_from, plan_checks, with_records, plan_out}
 
 -- a number's four bytes, each by division
 quarters : (n : ℕ) → (n / 65536 ≡ n / 256 / 256) × (n / 16777216 ≡ n / 256 / 256 / 256)
@@ -26,6 +27,14 @@ pub record_bytes : (job : ℕ) (time : ℤ) {p q : List ℕ} → p ≡ to_le_byt
     80 ∷ 76 ∷ get_or p 0 0 ∷ get_or p 1 0 ∷ get_or q 0 0 ∷ get_or q 1 0 ∷ get_or q 2 0 ∷ get_or q 3 0 ∷ [] ≡ plan_record job time
 unfolding plan_record bytes_of
 record_bytes job time e f = let (a, b) = quarters (unsigned32 time) in rw (e, f, a, b)
+
+-- the bytes of a rule's record, field by field
+pub rule_bytes : (r : Rule) {p q s t : List ℕ} → p ≡ to_le_bytes w16 r.x → q ≡ to_le_bytes w16 r.y → s ≡ to_le_bytes w16 r.z →
+    t ≡ to_le_bytes w32 (unsigned32 r.k) →
+    82 ∷ 85 ∷ get_or p 0 0 ∷ get_or p 1 0 ∷ get_or q 0 0 ∷ get_or q 1 0 ∷ get_or s 0 0 ∷ get_or s 1 0 ∷ get_or t 0 0 ∷ get_or t 1 0 ∷ get_or t 2 0
+    ∷ get_or t 3 0 ∷ [] ≡ rule_record r
+unfolding rule_record bytes_of
+rule_bytes r a b c d = let (h, i) = quarters (unsigned32 r.k) in rw (a, b, c, d, h, i)
 
 record_length : (job : ℕ) (time : ℤ) → length (plan_record job time) ≡ 8
 unfolding plan_record bytes_of

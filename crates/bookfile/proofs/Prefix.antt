@@ -14,6 +14,7 @@ use lib.Seq.{get_or-take}
 use Rattle.maxatom.specs.Book.{most_jobs, most_rules}
 use Rattle.maxatom.specs.declared.Rule.{Rule}
 use Rattle.derivation.specs.Refusals.{Reply, refused, answer, verdict}
+use Rattle.bookfile.specs.declared.mark.Form.{Form}
 use Rattle.bookfile.specs.declared.reading.LatestTime.{LatestTime}
 use Rattle.bookfile.specs.Numbers.{word, long, signed16, signed32}
 use Rattle.bookfile.specs.Kinds.{Kind, jobs_at, decoded_latest, HR, rule_with, kind_at, size_at, decoded_rule, among}
@@ -54,7 +55,7 @@ module _ (n : ℕ) (file : List ℕ) where
           let e : min n (length file) ≡ n = min-eq_left (omega arith) in
           rw (e, lt-leb n m h, lt-leb (length file) m (omega arith))
 
-  word_same : (at : ℕ) → at + 2 ≤ n → word cut at ≡ word file at
+  pub word_same : (at : ℕ) → at + 2 ≤ n → word cut at ≡ word file at
   unfolding word
   word_same at h = rw (get_or-take n file at 0 (omega arith), get_or-take n file (at + 1) 0 (omega arith))
 
@@ -63,15 +64,15 @@ module _ (n : ℕ) (file : List ℕ) where
   long_same at h = rw (word_same at (omega arith), word_same (at + 2) (omega arith))
 
   module _ (at : ℕ) (h : at + 8 ≤ n) where
-    here_same : latest_here cut at ≡ latest_here file at
+    pub here_same : latest_here cut at ≡ latest_here file at
     unfolding latest_here
     here_same = rw (leb_length (at + 2) (omega arith), word_same at (omega arith))
 
-    time_same : decoded_latest cut at ≡ decoded_latest file at
+    pub time_same : decoded_latest cut at ≡ decoded_latest file at
     unfolding decoded_latest
     time_same = rw (word_same (at + 2) (omega arith), long_same (at + 4) (omega arith))
 
-    latest_same : (jobs : ℕ) (again : Bool) → latest_record_reply jobs cut again at ≡ latest_record_reply jobs file again at
+    pub latest_same : (jobs : ℕ) (again : Bool) → latest_record_reply jobs cut again at ≡ latest_record_reply jobs file again at
     unfolding latest_record_reply latest_record_checks
     latest_same jobs again = rw (length_lt (at + 8) h, time_same)
 
@@ -102,9 +103,9 @@ module _ (n : ℕ) (file : List ℕ) where
             sym (rule_minutes cut at (λ q. e (sym mark ∙ q))) ∙ fields_same _
             ∙ ap (λ (w : ℕ). rule_with file at (signed32 w)) (long_same (at + 8) (omega arith)) ∙ rule_minutes file at e
 
-    reply_same : (jobs count : ℕ) → rule_reply jobs cut count at ≡ rule_reply jobs file count at
+    reply_same : (form : Form) (jobs count : ℕ) → rule_reply form jobs cut count at ≡ rule_reply form jobs file count at
     unfolding rule_reply record_checks
-    reply_same jobs count =
+    reply_same form jobs count =
         rw (
           own_checks cut at jobs,
           own_checks file at jobs,
@@ -115,9 +116,9 @@ module _ (n : ℕ) (file : List ℕ) where
           rule_same,
         )
 
-  head_same : 4 ≤ n → verdict (head_checks cut) ≡ verdict (head_checks file)
+  pub head_same : (form : Form) → 4 ≤ n → verdict (head_checks form cut) ≡ verdict (head_checks form file)
   unfolding head_checks jobs_at
-  head_same h =
+  head_same form h =
       rw (length_lt 2 (omega arith), length_lt 4 (omega arith), word_same 0 (omega arith), word_same 2 (omega arith))
 
 -- each latest time's record that is read begins within the first 2,060 bytes
@@ -151,17 +152,17 @@ times_few (suc most) jobs file given at =
     go true (answer t) (answer more) h = omega arith
 
 -- each rule's record that is read begins within the first 14,348 bytes
-rules_same : (file : List ℕ) (jobs most count at : ℕ) → count + most ≡ most_rules + 1 → at ≤ 2060 + 12 * count →
-    rules_from most jobs (take 16384 file) count at ≡ rules_from most jobs file count at
+rules_same : (form : Form) (file : List ℕ) (jobs most count at : ℕ) → count + most ≡ most_rules + 1 → at ≤ 2060 + 12 * count →
+    rules_from form most jobs (take 16384 file) count at ≡ rules_from form most jobs file count at
 unfolding rules_from
-rules_same file jobs zero count at e h = refl
-rules_same file jobs (suc most) count at e h =
+rules_same form file jobs zero count at e h = refl
+rules_same form file jobs (suc most) count at e h =
     let f : at + 12 ≤ 16384 = omega arith in
     rw (
       length_le 16384 file at (omega arith),
-      reply_same 16384 file at f jobs count,
+      reply_same 16384 file at f form jobs count,
       size_same 16384 file at f,
-      rules_same file jobs most (count + 1) (at + size_at file at) (omega arith) (omega (arith, size_bounds file at)),
+      rules_same form file jobs most (count + 1) (at + size_at file at) (omega arith) (omega (arith, size_bounds file at)),
     )
 
 module _ (file : List ℕ) where
@@ -171,21 +172,21 @@ module _ (file : List ℕ) where
   latest_of_same : latest_records (take 16384 file) ≡ latest_records file
   latest_of_same = rw jobs_same (times_same file (word file 2) (most_jobs + 1) [] 4 0 refl (omega arith))
 
-  begin_bound : rules_begin file ≤ 2060
+  pub begin_bound : rules_begin file ≤ 2060
   unfolding end_of
   begin_bound = omega (arith, times_few (most_jobs + 1) (word file 2) file [] 4)
 
-  book_same : book_reply (take 16384 file) ≡ book_reply file
+  book_same : (form : Form) → book_reply form (take 16384 file) ≡ book_reply form file
   unfolding book_reply reading
-  book_same =
+  book_same form =
       rw (
-        head_same 16384 file (omega arith),
+        head_same 16384 file form (omega arith),
         latest_of_same,
         jobs_same,
-        rules_same file (word file 2) (most_rules + 1) 0
+        rules_same form file (word file 2) (most_rules + 1) 0
             (rules_begin file) refl (omega (arith, begin_bound)),
       )
 
-  pub first_bytes : FirstBytes file
+  pub first_bytes : (form : Form) → FirstBytes form file
   unfolding file_reply latest_of_file
-  first_bytes = record { verdict = rw (jobs_same, book_same); latest = rw (latest_of_same, jobs_same); rules = book_same }
+  first_bytes form = record { verdict = rw (jobs_same, book_same form); latest = rw (latest_of_same, jobs_same); rules = book_same form }

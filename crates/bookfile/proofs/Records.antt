@@ -19,11 +19,12 @@ use Rattle.table.specs.Faults.{rule_fault}
 use Rattle.derivation.specs.Faults.{number_of}
 use Rattle.derivation.specs.declared.Fault.{Fault}
 use Rattle.derivation.specs.declared.Fault.TheVariants.{JobNumber, Offset}
+use Rattle.bookfile.specs.declared.mark.Form.{Form}
 use Rattle.bookfile.specs.declared.mark.Mark.{Mark}
 use Rattle.bookfile.specs.declared.mark.Mark.TheVariants.{Book}
 use denote.Enum.Bare.{sameb}
 use Rattle.bookfile.specs.contracts.mark.Mark.{the_type}
-use Rattle.bookfile.specs.Marks.{mark_of, is_rule}
+use Rattle.bookfile.specs.Marks.{mark_in, is_rule}
 use Rattle.bookfile.proofs.Marks.{unknown, known, of_rule, of_book, said_of}
 use Rattle.bookfile.specs.Numbers.{word, long, signed16, signed32}
 use Rattle.bookfile.specs.Kinds.{kind_among, kind_checks, cut, Kind, BK, jobs_at, rule_with, minutes_at, minutes_rule, RU, hours_at, hours_rule, HR, rule_marks, marks, among, kind_at, size_at, decoded_rule}
@@ -98,9 +99,9 @@ after_check (Ok done) r = Ok r
 after_check (Err fault) r = Err fault
 
 -- the reply on a record, check by check
-module _ (jobs : ℕ) (file : List ℕ) (count at : ℕ) where
+module _ (form : Form) (jobs : ℕ) (file : List ℕ) (count at : ℕ) where
   abbrev said : Reply Rule
-  said = rule_reply jobs file count at
+  said = rule_reply form jobs file count at
 
   abbrev rule : Rule
   rule = decoded_rule file at
@@ -118,10 +119,10 @@ module _ (jobs : ℕ) (file : List ℕ) (count at : ℕ) where
   full = check (leb most_rules count) 5 at ∷ own
 
   abbrev counted : List Check
-  counted = check (not (among (word file at) rule_marks)) 3 at ∷ full
+  counted = check (not (among (word file at) (rule_marks form))) 3 at ∷ full
 
   abbrev marked : List Check
-  marked = check (not (among (word file at) marks)) 2 at ∷ counted
+  marked = check (not (among (word file at) (marks form))) 2 at ∷ counted
 
   pub no_mark : length file < at + 2 → said ≡ refused 1 at
   unfolding rule_reply record_checks
@@ -132,21 +133,21 @@ module _ (jobs : ℕ) (file : List ℕ) (count at : ℕ) where
     unfolding rule_reply record_checks
     in_order = skips rule _ marked (le-ltb (length file) (at + 2) h)
 
-    pub unknown_said : {fault : Fault} → mark_of (word file at) ≡ Err fault → said ≡ refused (number_of fault) at
+    pub unknown_said : {fault : Fault} → mark_in form (word file at) ≡ Err fault → said ≡ refused (number_of fault) at
     unknown_said e =
-        let u = unknown (word file at) e in in_order ∙ says rule _ _ u.1 ∙ ap (λ (f : Fault). refused (number_of f) at) (sym u.0)
+        let u = unknown form (word file at) e in in_order ∙ says rule _ _ u.1 ∙ ap (λ (f : Fault). refused (number_of f) at) (sym u.0)
 
-    module _ {mark : Mark} (e : mark_of (word file at) ≡ Ok mark) where
+    module _ {mark : Mark} (e : mark_in form (word file at) ≡ Ok mark) where
       pub misplaced : is_rule mark ≡ false → said ≡ refused 3 at
       misplaced r =
-          in_order ∙ skips rule (check (not (among (word file at) marks)) 2 at) counted (known (word file at) e)
-          ∙ says rule (check (not (among (word file at) rule_marks)) 3 at) full (rw (of_rule (word file at) e, r))
+          in_order ∙ skips rule (check (not (among (word file at) (marks form))) 2 at) counted (known form (word file at) e)
+          ∙ says rule (check (not (among (word file at) (rule_marks form))) 3 at) full (rw (of_rule form (word file at) e, r))
 
-    module _ {mark : Mark} (e : mark_of (word file at) ≡ Ok mark) (r : is_rule mark ≡ true) where
+    module _ {mark : Mark} (e : mark_in form (word file at) ≡ Ok mark) (r : is_rule mark ≡ true) where
       ruled : said ≡ reply full rule
       ruled =
-          in_order ∙ skips rule (check (not (among (word file at) marks)) 2 at) counted (known (word file at) e)
-          ∙ skips rule (check (not (among (word file at) rule_marks)) 3 at) full (rw (of_rule (word file at) e, r))
+          in_order ∙ skips rule (check (not (among (word file at) (marks form))) 2 at) counted (known form (word file at) e)
+          ∙ skips rule (check (not (among (word file at) (rule_marks form))) 3 at) full (rw (of_rule form (word file at) e, r))
 
       pub full_said : 1024 ≤ count → said ≡ refused 5 at
       full_said l = ruled ∙ says rule (check (leb most_rules count) 5 at) own (le-leb most_rules count l)
@@ -182,9 +183,9 @@ module _ (jobs : ℕ) (file : List ℕ) (count at : ℕ) where
           taken e = fields_last ∙ by_fields (Ok tt) e
 
 -- the reply on the first record, check by check
-module _ (file : List ℕ) where
+module _ (form : Form) (file : List ℕ) where
   abbrev head : Reply ℕ
-  head = head_reply file
+  head = head_reply form file
 
   abbrev jobs : ℕ
   jobs = word file 2
@@ -196,7 +197,7 @@ module _ (file : List ℕ) where
   body = check (ltb (length file) 4) 1 0 ∷ number
 
   abbrev opening : List Check
-  opening = check (not (among (word file 0) marks)) 2 0 ∷ check (not (eqb (word file 0) BK.mark)) 3 0 ∷ body
+  opening = check (not (among (word file 0) (marks form))) 2 0 ∷ check (not (eqb (word file 0) BK.mark)) 3 0 ∷ body
 
   pub head_short : length file < 2 → head ≡ refused 1 0
   unfolding head_reply head_checks jobs_at
@@ -207,25 +208,25 @@ module _ (file : List ℕ) where
     unfolding head_reply head_checks jobs_at
     head_opens = skips jobs (check (ltb (length file) 2) 1 0) opening (le-ltb _ _ h)
 
-    pub head_unknown : {fault : Fault} → mark_of (word file 0) ≡ Err fault → head ≡ refused (number_of fault) 0
+    pub head_unknown : {fault : Fault} → mark_in form (word file 0) ≡ Err fault → head ≡ refused (number_of fault) 0
     head_unknown e =
-        let u = unknown (word file 0) e in head_opens ∙ says jobs _ _ u.1 ∙ ap (λ (f : Fault). refused (number_of f) 0) (sym u.0)
+        let u = unknown form (word file 0) e in head_opens ∙ says jobs _ _ u.1 ∙ ap (λ (f : Fault). refused (number_of f) 0) (sym u.0)
 
-    module _ {mark : Mark} (e : mark_of (word file 0) ≡ Ok mark) where
+    module _ {mark : Mark} (e : mark_in form (word file 0) ≡ Ok mark) where
       pub head_other : sameb the_type mark Book ≡ false → head ≡ refused 3 0
       head_other b =
           head_opens
-          ∙ skips jobs (check (not (among (word file 0) marks)) 2 0) (check (not (eqb (word file 0) BK.mark)) 3 0 ∷ body)
-          (known (word file 0) e)
-          ∙ says jobs (check (not (eqb (word file 0) BK.mark)) 3 0) body (rw (of_book (word file 0) e, b))
+          ∙ skips jobs (check (not (among (word file 0) (marks form))) 2 0) (check (not (eqb (word file 0) BK.mark)) 3 0 ∷ body)
+          (known form (word file 0) e)
+          ∙ says jobs (check (not (eqb (word file 0) BK.mark)) 3 0) body (rw (of_book form (word file 0) e, b))
 
-    module _ {mark : Mark} (e : mark_of (word file 0) ≡ Ok mark) (b : sameb the_type mark Book ≡ true) where
+    module _ {mark : Mark} (e : mark_in form (word file 0) ≡ Ok mark) (b : sameb the_type mark Book ≡ true) where
       head_book : head ≡ reply body jobs
       head_book =
           head_opens
-          ∙ skips jobs (check (not (among (word file 0) marks)) 2 0) (check (not (eqb (word file 0) BK.mark)) 3 0 ∷ body)
-          (known (word file 0) e)
-          ∙ skips jobs (check (not (eqb (word file 0) BK.mark)) 3 0) body (rw (of_book (word file 0) e, b))
+          ∙ skips jobs (check (not (among (word file 0) (marks form))) 2 0) (check (not (eqb (word file 0) BK.mark)) 3 0 ∷ body)
+          (known form (word file 0) e)
+          ∙ skips jobs (check (not (eqb (word file 0) BK.mark)) 3 0) body (rw (of_book form (word file 0) e, b))
 
       pub head_cut : length file < 4 → head ≡ refused 1 0
       head_cut l = head_book ∙ says jobs (check (ltb (length file) 4) 1 0) number (lt-ltb _ _ l)

@@ -17,6 +17,8 @@ use Rattle.derivation.specs.Refusals.{Reply, refused, answer, Check, reply, verd
 use Rattle.maxatom.proofs.Lists.{each_join}
 use Rattle.derivation.proofs.Checks.{answer_not}
 use Rattle.derivation.proofs.Refusing.{refuses, refusing}
+use Rattle.bookfile.specs.declared.mark.Form.{Form}
+use Rattle.bookfile.specs.declared.mark.Form.TheVariants.{Sent}
 use Rattle.bookfile.specs.declared.reading.LatestTime.{LatestTime}
 use Rattle.bookfile.specs.Numbers.{word}
 use Rattle.bookfile.specs.Kinds.{kind_checks, CE, decoded_latest, among, kind_at, size_at, decoded_rule}
@@ -31,7 +33,7 @@ use Rattle.bookfile.proofs.Filling.{first_of, none_of}
 use Rattle.bookfile.proofs.Walks.{passes_few, split}
 
 -- checks, and more behind them
-after_append : {A : Type 0} (a : A) (checks more : List Check) → reply (checks ++ more) a ≡ after (verdict checks) (reply more a)
+pub after_append : {A : Type 0} (a : A) (checks more : List Check) → reply (checks ++ more) a ≡ after (verdict checks) (reply more a)
 unfolding reply after
 after_append a [] more = refl
 after_append a (c ∷ checks) more = go c.fails (after_append a checks more)
@@ -43,7 +45,7 @@ after_append a (c ∷ checks) more = go c.fails (after_append a checks more)
     go false h = h
 
 -- what comes after a reply does not depend on its answer
-after_any : {A B : Type 0} (a : A) (checks : List Check) (second : Reply B) → after (reply checks a) second ≡ after (verdict checks) second
+pub after_any : {A B : Type 0} (a : A) (checks : List Check) (second : Reply B) → after (reply checks a) second ≡ after (verdict checks) second
 unfolding reply after
 after_any a [] second = refl
 after_any a (c ∷ checks) second = go c.fails (after_any a checks second)
@@ -97,29 +99,29 @@ from_latest_checks a (suc most) jobs file given at =
         ∙ sym (after_before (λ x. x) said rest (answer a) ∙ after_any (decoded_latest file at) here (after rest (answer a)))
 
 -- the records from a byte on are refused as their checks are
-from_checks : {A : Type 0} (a : A) (most jobs : ℕ) (file : List ℕ) (count at : ℕ) →
-    reply (checks_from most jobs file count at) a ≡ after (rules_from most jobs file count at) (answer a)
+from_checks : {A : Type 0} (a : A) (form : Form) (most jobs : ℕ) (file : List ℕ) (count at : ℕ) →
+    reply (checks_from form most jobs file count at) a ≡ after (rules_from form most jobs file count at) (answer a)
 unfolding checks_from rules_from rule_reply after reply
-from_checks a zero jobs file count at = refl
-from_checks a (suc most) jobs file count at = go (leb (length file) at) (from_checks a most jobs file (count + 1) (at + size_at file at))
+from_checks a form zero jobs file count at = refl
+from_checks a form (suc most) jobs file count at = go (leb (length file) at) (from_checks a form most jobs file (count + 1) (at + size_at file at))
   where
     here : List Check
-    here = record_checks jobs file count at
+    here = record_checks form jobs file count at
 
     behind : List Check
-    behind = checks_from most jobs file (count + 1) (at + size_at file at)
+    behind = checks_from form most jobs file (count + 1) (at + size_at file at)
 
     rest : Reply (List Placed)
-    rest = rules_from most jobs file (count + 1) (at + size_at file at)
+    rest = rules_from form most jobs file (count + 1) (at + size_at file at)
 
     go : (t : Bool) → reply behind a ≡ after rest (answer a) →
         reply (cond t [] (here ++ behind)) a
-        ≡ after (cond t (answer []) (before (entry at) (rule_reply jobs file count at) rest)) (answer a)
+        ≡ after (cond t (answer []) (before (entry at) (rule_reply form jobs file count at) rest)) (answer a)
     go true h = refl
     go false h =
         after_append a here behind ∙ ap (after (verdict here)) h
         ∙ sym
-        (after_before (entry at) (rule_reply jobs file count at) rest (answer a) ∙ after_any (decoded_rule file at) here (after rest (answer a)))
+        (after_before (entry at) (rule_reply form jobs file count at) rest (answer a) ∙ after_any (decoded_rule file at) here (after rest (answer a)))
 
 -- a file's reply, and the reader's, by what the first record says, and what the latest times and the rules behind it say
 module _ (jobs : ℕ) where
@@ -145,34 +147,35 @@ module _ (jobs : ℕ) where
   roomed_after table list (answer tt) (answer ts) (refused number place) = refl
   roomed_after table list (answer tt) (answer ts) (answer es) = refl
 
-module _ (file : List ℕ) where
+module _ (form : Form) (file : List ℕ) where
   abbrev counts : Counts
-  counts = found (word file 2) (book_reply file)
+  counts = found (word file 2) (book_reply form file)
 
   checks_say : {A : Type 0} (a : A) →
-      reply (file_checks file) a ≡ after (verdict (head_checks file)) (after (latest_records file) (after (rules_of file) (answer a)))
+      reply (file_checks form file) a ≡ after (verdict (head_checks form file)) (after (latest_records file) (after (rules_of form file) (answer a)))
   checks_say a =
       let times = latest_checks_from (most_jobs + 1) (word file 2) file [] 4 in
-      let rules = checks_from (most_rules + 1) (word file 2) file 0 (rules_begin file) in
-      after_append a (head_checks file) (times ++ rules)
-      ∙ ap (after (verdict (head_checks file)))
+      let rules = checks_from form (most_rules + 1) (word file 2) file 0 (rules_begin file) in
+      after_append a (head_checks form file) (times ++ rules)
+      ∙ ap (after (verdict (head_checks form file)))
       (after_append a times rules
-      ∙ ap (after (verdict times)) (from_checks a (most_rules + 1) (word file 2) file 0 (rules_begin file))
-      ∙ ap (λ (s : Reply (Unit {0})). after s (after (rules_of file) (answer a)))
+      ∙ ap (after (verdict times)) (from_checks a form (most_rules + 1) (word file 2) file 0 (rules_begin file))
+      ∙ ap (λ (s : Reply (Unit {0})). after s (after (rules_of form file) (answer a)))
       (from_latest_checks (tt {0}) (most_jobs + 1) (word file 2) file [] 4)
-      ∙ after_answer (latest_records file) (after (rules_of file) (answer a)))
+      ∙ after_answer (latest_records file) (after (rules_of form file) (answer a)))
 
-  file_is : file_reply file ≡ reply (file_checks file) counts
+  pub file_is : file_reply form file ≡ reply (file_checks form file) counts
   unfolding file_reply book_reply reading
-  file_is = counted_after (word file 2) (verdict (head_checks file)) (latest_records file) (rules_of file) ∙ sym (checks_say counts)
+  file_is = counted_after (word file 2) (verdict (head_checks form file)) (latest_records file) (rules_of form file) ∙ sym (checks_say counts)
 
-  read_is : (table list : ℕ) → read_reply file table list ≡ reply (reader_checks file table list) counts
-  unfolding read_reply file_reply book_reply reading
-  read_is table list =
-      roomed_after (word file 2) table list (verdict (head_checks file)) (latest_records file) (rules_of file)
-      ∙ sym
-      (after_append counts (file_checks file) _
-      ∙ ap (λ (s : Reply (Unit {0})). after s (reply (room_checks table list counts) counts)) (checks_say (tt {0})))
+read_is : (file : List ℕ) (table list : ℕ) → read_reply file table list ≡ reply (reader_checks file table list) (counts Sent file)
+unfolding read_reply file_reply book_reply reading
+read_is file table list =
+    let c = counts Sent file in
+    roomed_after (word file 2) table list (verdict (head_checks Sent file)) (latest_records file) (rules_of Sent file)
+    ∙ sym
+    (after_append c (file_checks Sent file) _
+    ∙ ap (λ (s : Reply (Unit {0})). after s (reply (room_checks table list c) c)) (checks_say Sent file (tt {0})))
 
 -- No job has a second latest time, so however many more looks are allowed, the same is said.
 same_times : (m n jobs : ℕ) (file given : List ℕ) (at : ℕ) → left jobs given < m → left jobs given < n →
@@ -211,53 +214,53 @@ same_times (suc m) (suc n) jobs file given at h k =
     go false e = refl
 
 -- A 1,025th record is refused, so however many more looks are allowed, the same is said.
-same_from : (m n jobs : ℕ) (file : List ℕ) (count at : ℕ) → count ≤ most_rules → looks ≤ count + m → looks ≤ count + n →
-    rules_from m jobs file count at ≡ rules_from n jobs file count at
+same_from : (form : Form) (m n jobs : ℕ) (file : List ℕ) (count at : ℕ) → count ≤ most_rules → looks ≤ count + m → looks ≤ count + n →
+    rules_from form m jobs file count at ≡ rules_from form n jobs file count at
 unfolding rules_from before
-same_from zero n jobs file count at c h k = absurd (omega arith)
-same_from (suc m) zero jobs file count at c h k = absurd (omega arith)
-same_from (suc m) (suc n) jobs file count at c h k =
+same_from form zero n jobs file count at c h k = absurd (omega arith)
+same_from form (suc m) zero jobs file count at c h k = absurd (omega arith)
+same_from form (suc m) (suc n) jobs file count at c h k =
     go (leb (length file) at)
-    (by (rule_reply jobs file count at) refl (λ c h k. same_from m n jobs file (count + 1) (at + size_at file at) c h k))
+    (by (rule_reply form jobs file count at) refl (λ c h k. same_from form m n jobs file (count + 1) (at + size_at file at) c h k))
   where
     long : Reply (List Placed)
-    long = rules_from m jobs file (count + 1) (at + size_at file at)
+    long = rules_from form m jobs file (count + 1) (at + size_at file at)
 
     short : Reply (List Placed)
-    short = rules_from n jobs file (count + 1) (at + size_at file at)
+    short = rules_from form n jobs file (count + 1) (at + size_at file at)
 
-    by : (said : Reply Rule) → rule_reply jobs file count at ≡ said →
+    by : (said : Reply Rule) → rule_reply form jobs file count at ≡ said →
         (count + 1 ≤ most_rules → looks ≤ count + 1 + m → looks ≤ count + 1 + n → long ≡ short) →
         before (entry at) said long ≡ before (entry at) said short
     by (refused number place) e f = refl
     by (answer r) e f =
-        let l = not_full jobs file count at e in ap (before (entry at) (answer r)) (f (omega arith) (omega arith) (omega arith))
+        let l = not_full form jobs file count at e in ap (before (entry at) (answer r)) (f (omega arith) (omega arith) (omega arith))
 
-    go : (t : Bool) → before (entry at) (rule_reply jobs file count at) long ≡ before (entry at) (rule_reply jobs file count at) short →
-        cond t (answer []) (before (entry at) (rule_reply jobs file count at) long)
-        ≡ cond t (answer []) (before (entry at) (rule_reply jobs file count at) short)
+    go : (t : Bool) → before (entry at) (rule_reply form jobs file count at) long ≡ before (entry at) (rule_reply form jobs file count at) short →
+        cond t (answer []) (before (entry at) (rule_reply form jobs file count at) long)
+        ≡ cond t (answer []) (before (entry at) (rule_reply form jobs file count at) short)
     go true e = refl
     go false e = e
 
 -- A reading that is not refused has taken every byte from the one where it began.
-whole_from : (most jobs : ℕ) (file : List ℕ) (count at : ℕ) (found : List Placed) → rules_from most jobs file count at ≡ answer found →
+whole_from : (form : Form) (most jobs : ℕ) (file : List ℕ) (count at : ℕ) (found : List Placed) → rules_from form most jobs file count at ≡ answer found →
     stretches file found ≡ drop at file
 unfolding rules_from stretches stretch
-whole_from zero jobs file count at found e = absurd (answer_not (sym e))
-whole_from (suc most) jobs file count at found e =
-    go (leb (length file) at) refl (whole_from most jobs file (count + 1) (at + size_at file at)) e
+whole_from form zero jobs file count at found e = absurd (answer_not (sym e))
+whole_from form (suc most) jobs file count at found e =
+    go (leb (length file) at) refl (whole_from form most jobs file (count + 1) (at + size_at file at)) e
   where
     rest : Reply (List Placed)
-    rest = rules_from most jobs file (count + 1) (at + size_at file at)
+    rest = rules_from form most jobs file (count + 1) (at + size_at file at)
 
     go : (t : Bool) → leb (length file) at ≡ t →
         ((others : List Placed) → rest ≡ answer others → stretches file others ≡ drop (at + size_at file at) file) →
-        cond t (answer []) (before (entry at) (rule_reply jobs file count at) rest) ≡ answer found → stretches file found ≡ drop at file
+        cond t (answer []) (before (entry at) (rule_reply form jobs file count at) rest) ≡ answer found → stretches file found ≡ drop at file
     go true l f q =
         let none : found ≡ [] = cc in
         rw none (sym (drop_of_length-le file {i = at} (leb-true _ _ l)))
     go false l f q =
-        let s = split at (rule_reply jobs file count at) rest found q in
+        let s = split at (rule_reply form jobs file count at) rest found q in
         rw (s.is, f s.others s.says_more, ← drop-drop (size_at file at) at file) (take-append-drop (size_at file at) (drop at file))
 
 -- The latest times that were read are those of the records from the byte on.
@@ -277,28 +280,28 @@ times_from (suc most) jobs file given at found e =
         rw s.is (ap (λ (l : List LatestTime). decoded_latest file at ∷ l) (f s.others s.more))
     go false h f = rw (none_of most jobs file given at found e h) refl
 
-pub to_the_end : (file : List ℕ) → ToTheEnd file
+pub to_the_end : (form : Form) (file : List ℕ) → ToTheEnd form file
 unfolding book_reply reading after
-to_the_end file =
+to_the_end form file =
     record {
       times = λ most found e. times_from most (word file 2) file [] 4 found e;
-      whole = λ most at found e. whole_from most (word file 2) file 0 at found e;
-      same = λ more others. go more others (verdict (head_checks file)) refl;
+      whole = λ most at found e. whole_from form most (word file 2) file 0 at found e;
+      same = λ more others. go more others (verdict (head_checks form file)) refl;
     }
   where
     jobs : ℕ
     jobs = word file 2
 
-    go : (more others : ℕ) (head : Reply (Unit {0})) → verdict (head_checks file) ≡ head →
+    go : (more others : ℕ) (head : Reply (Unit {0})) → verdict (head_checks form file) ≡ head →
         let many = latest_from (most_jobs + 1 + more) jobs file [] 4 in
-        after head (after many (rules_from (most_rules + 1 + others) jobs file 0 (end_of many)))
-        ≡ after head (after (latest_records file) (rules_of file))
+        after head (after many (rules_from form (most_rules + 1 + others) jobs file 0 (end_of many)))
+        ≡ after head (after (latest_records file) (rules_of form file))
     go more others (refused number place) e = refl
     go more others (answer tt) e =
-        let few : left jobs [] ≤ most_jobs = omega (arith, left_all jobs, passes_few file e) in
+        let few : left jobs [] ≤ most_jobs = omega (arith, left_all jobs, passes_few form file e) in
         rw (
           same_times (most_jobs + 1 + more) (most_jobs + 1) jobs file [] 4 (omega arith) (omega arith),
-          same_from (most_rules + 1 + others) looks jobs file 0 (rules_begin file) (omega arith) (omega arith) (omega arith),
+          same_from form (most_rules + 1 + others) looks jobs file 0 (rules_begin file) (omega arith) (omega arith) (omega arith),
         )
 
 -- the numbers of a file's checks, and others behind them
@@ -340,22 +343,22 @@ module _ (more : List ℕ) where
       go false h = tt
       go true h = (one, (six, ((7, omega arith, refl), (nine, h))))
 
-  from_numbers : (most jobs : ℕ) (file : List ℕ) (count at : ℕ) → Each Own (checks_from most jobs file count at)
+  from_numbers : (form : Form) (most jobs : ℕ) (file : List ℕ) (count at : ℕ) → Each Own (checks_from form most jobs file count at)
   unfolding checks_from record_checks
-  from_numbers zero jobs file count at = ((4, omega arith, refl), tt)
-  from_numbers (suc most) jobs file count at = go (leb (length file) at) (from_numbers most jobs file (count + 1) (at + size_at file at))
+  from_numbers form zero jobs file count at = ((4, omega arith, refl), tt)
+  from_numbers form (suc most) jobs file count at = go (leb (length file) at) (from_numbers form most jobs file (count + 1) (at + size_at file at))
     where
       own : Each Own (kind_checks (kind_at file at) jobs file at)
       own = subst (Each Own) (sym (own_checks file at jobs)) (one, (six, ((6, omega arith, refl), tt)))
 
-      go : (t : Bool) → Each Own (checks_from most jobs file (count + 1) (at + size_at file at)) →
-          Each Own (cond t [] (record_checks jobs file count at ++ checks_from most jobs file (count + 1) (at + size_at file at)))
+      go : (t : Bool) → Each Own (checks_from form most jobs file (count + 1) (at + size_at file at)) →
+          Each Own (cond t [] (record_checks form jobs file count at ++ checks_from form most jobs file (count + 1) (at + size_at file at)))
       go true h = tt
       go false h = (one, (two, (three, ((4, omega arith, refl), each_join Own (kind_checks (kind_at file at) jobs file at) _ own h))))
 
-  file_numbers : (file : List ℕ) → Each Own (file_checks file)
+  pub file_numbers : (form : Form) (file : List ℕ) → Each Own (file_checks form file)
   unfolding head_checks
-  file_numbers file = (
+  file_numbers form file = (
     one,
     (
       two,
@@ -367,7 +370,7 @@ module _ (more : List ℕ) where
             (3, omega arith, refl),
             each_join Own (latest_checks_from (most_jobs + 1) (word file 2) file [] 4) _
                 (latest_numbers (most_jobs + 1) (word file 2) file [] 4)
-                (from_numbers (most_rules + 1) (word file 2) file 0 (rules_begin file)),
+                (from_numbers form (most_rules + 1) (word file 2) file 0 (rules_begin file)),
           ),
         ),
       ),
@@ -378,12 +381,12 @@ pub file_demand_1 : FileDemand1
 unfolding plan_checks plan_out read_rules read_latest lent
 file_demand_1 =
     record {
-      examine = λ file. rw (file_is file) (refuses _ _ _ (file_numbers [] file));
+      file = λ form file. rw (file_is form file) (refuses _ _ _ (file_numbers [] form file));
       read_book = λ file rules latest.
           record {
             says = rw (read_is file (length rules) (length latest))
                 (refuses _ _ _
-                (each_join _ (file_checks file) _ (file_numbers (21 ∷ []) file) ((9, omega arith, refl), ((9, omega arith, refl), tt))));
+                (each_join _ (file_checks Sent file) _ (file_numbers (21 ∷ []) Sent file) ((9, omega arith, refl), ((9, omega arith, refl), tt))));
             unchanged = λ number place e. rw e;
           };
       write_plan = λ times out at. refusing _ _ _ _ _ ((0, omega arith, refl), ((1, omega arith, refl), tt));

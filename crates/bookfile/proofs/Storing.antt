@@ -8,6 +8,7 @@ use lib.Seq.{get_or-drop, drop-cons, take-suc, length-take-le, set-append_seam, 
 use lib.ListN.{length, take, drop, set, get_or, get_or-map, length-map, drop_of_length-le}
 use Rattle.maxatom.specs.declared.Rule.{Rule}
 use Rattle.derivation.specs.Step.{no_rule}
+use Rattle.bookfile.specs.declared.mark.Form.TheVariants.{Sent}
 use Rattle.bookfile.specs.Kinds.{size_at, decoded_rule}
 use Rattle.bookfile.specs.Reading.{entry, Placed, rules_begin, entries, rules_of_file}
 use Rattle.bookfile.specs.Inner.{Listed, Begins}
@@ -15,29 +16,29 @@ use Rattle.bookfile.proofs.Walks.{Walked, walked_none, walked_begins, walked_nex
 
 -- the first i rules of the file stand in the first i places, the other places are as they were, and the next record begins at byte `at`
 pub record Stored (file : List ℕ) (places : List Rule) (at i : ℕ) (rules : List Rule) : Type 0 where
-  pub walked : Walked file at i
-  pub is : rules ≡ take i (rules_of_file file) ++ drop i places
+  pub walked : Walked Sent file at i
+  pub is : rules ≡ take i (rules_of_file Sent file) ++ drop i places
 
-pub stored_none : (file : List ℕ) (places : List Rule) → Listed file → Stored file places (rules_begin file) 0 places
-stored_none file places l = record { walked = walked_none file l; is = refl }
+pub stored_none : (file : List ℕ) (places : List Rule) → Listed Sent file → Stored file places (rules_begin file) 0 places
+stored_none file places l = record { walked = walked_none Sent file l; is = refl }
 
 -- the rule whose record begins at a byte is the rule of that number
-rule_here : {file : List ℕ} {number at : ℕ} → Begins file number at → get_or (rules_of_file file) number no_rule ≡ decoded_rule file at
+rule_here : {file : List ℕ} {number at : ℕ} → Begins Sent file number at → get_or (rules_of_file Sent file) number no_rule ≡ decoded_rule file at
 rule_here {file} {number} {at} b =
     let none : Placed = entry 0 no_rule in
-    let es = entries file in
+    let es = entries Sent file in
     let here : get_or es number none ≡ entry at (decoded_rule file at) =
     sym
     (sym (ap (λ (l : List Placed). get_or l 0 none) b.here) ∙ (get_or-drop number es 0 none ∙ ap (λ (j : ℕ). get_or es j none) (omega arith))) in
     get_or-map (λ (q : Placed). q.rule) es number none ∙ ap (λ (q : Placed). q.rule) here
 
 module _ {file : List ℕ} {places : List Rule} {at i : ℕ} {rules : List Rule} (s : Stored file places at i rules) where
-  stored_next : i < length (entries file) → i < length places →
+  stored_next : i < length (entries Sent file) → i < length places →
       Stored file places (at + size_at file at) (i + 1) (set rules i (decoded_rule file at))
   stored_next h l =
-      let fresh = rules_of_file file in
+      let fresh = rules_of_file Sent file in
       let r = decoded_rule file at in
-      let many : length fresh ≡ length (entries file) = length-map (entries file) (λ (e : Placed). e.rule) in
+      let many : length fresh ≡ length (entries Sent file) = length-map (entries Sent file) (λ (e : Placed). e.rule) in
       let size : length (take i fresh) ≡ i = length-take-le i fresh (omega arith) in
       let next : i + 1 ≡ suc i = add-one i in
       let more : take (i + 1) fresh ≡ take i fresh ++ (r ∷ []) =
@@ -55,7 +56,7 @@ module _ {file : List ℕ} {places : List Rule} {at i : ℕ} {rules : List Rule}
       }
 
 -- a table with a place for each rule: what a turn of the loop has, and the table after the last
-module _ (file : List ℕ) (places : List Rule) (size : length places ≡ length (entries file)) where
+module _ (file : List ℕ) (places : List Rule) (size : length places ≡ length (entries Sent file)) where
   module _ {at i : ℕ} {rules : List Rule} (s : Stored file places at i rules) where
     pub turn_inside : i < length places → at + size_at file at ≤ length file
     turn_inside h = (walked_begins s.walked (omega arith)).inside
@@ -64,9 +65,9 @@ module _ (file : List ℕ) (places : List Rule) (size : length places ≡ length
         Stored file places next (i + 1) (set rules i r)
     turn_next h e f = rw (e, f) (stored_next s (omega arith) h)
 
-    pub stored_all : length places ≤ i → rules ≡ rules_of_file file
+    pub stored_all : length places ≤ i → rules ≡ rules_of_file Sent file
     stored_all h =
-        let fresh = rules_of_file file in
-        let whole : take i fresh ≡ fresh = take_all i fresh (omega (arith, length-map (entries file) (λ (q : Placed). q.rule))) in
+        let fresh = rules_of_file Sent file in
+        let whole : take i fresh ≡ fresh = take_all i fresh (omega (arith, length-map (entries Sent file) (λ (q : Placed). q.rule))) in
         let none : drop i places ≡ [] = drop_of_length-le places {i = i} h in
         s.is ∙ ap (λ (q : List Rule). q ++ drop i places) whole ∙ ap (λ (q : List Rule). fresh ++ q) none ∙ append-nil fresh

@@ -15,6 +15,7 @@ use Rattle.derivation.specs.declared.Counts.{Counts}
 use Rattle.derivation.specs.Refusals.{answer, accepts, rule_checks, table_checks, latest_outside, book_checks, NotRefused}
 use Rattle.derivation.proofs.Checks.{Passes, answer_not, passed, accepting, in_time, latest_passes, accepted_iff}
 use Rattle.maxatom.proofs.Lists.{each_join}
+use Rattle.bookfile.specs.declared.mark.Form.{Form}
 use Rattle.bookfile.specs.declared.reading.LatestTime.{LatestTime}
 use Rattle.bookfile.specs.Numbers.{word}
 use Rattle.bookfile.specs.Kinds.{kind_checks, jobs_at, kind_at, size_at}
@@ -40,26 +41,26 @@ unfolding rule_checks
 fine_none jobs number count [] h e = record { pass = tt; few = omega arith }
 fine_none jobs number count (d ∷ es) h e = absurd (let z : ◌≡◌ {A = List Placed} [] (d ∷ es) = cc in omega (arith, ap length z))
 
-fine : (most jobs : ℕ) (file : List ℕ) (number count at : ℕ) (es : List Placed) → count ≤ most_rules →
-    rules_from most jobs file count at ≡ answer es → Fine jobs number count es
+fine : (form : Form) (most jobs : ℕ) (file : List ℕ) (number count at : ℕ) (es : List Placed) → count ≤ most_rules →
+    rules_from form most jobs file count at ≡ answer es → Fine jobs number count es
 unfolding rules_from rule_checks record_checks
-fine zero jobs file number count at es h e = absurd (answer_not (sym e))
-fine (suc most) jobs file number count at es h e =
-    go (leb (length file) at) (λ others c q. fine most jobs file (number + 1) (count + 1) (at + size_at file at) others c q) e
+fine form zero jobs file number count at es h e = absurd (answer_not (sym e))
+fine form (suc most) jobs file number count at es h e =
+    go (leb (length file) at) (λ others c q. fine form most jobs file (number + 1) (count + 1) (at + size_at file at) others c q) e
   where
     go : (t : Bool) →
-        ((others : List Placed) → count + 1 ≤ most_rules → rules_from most jobs file (count + 1) (at + size_at file at) ≡ answer others →
+        ((others : List Placed) → count + 1 ≤ most_rules → rules_from form most jobs file (count + 1) (at + size_at file at) ≡ answer others →
         Fine jobs (number + 1) (count + 1) others) →
-        cond t (answer []) (before (entry at) (rule_reply jobs file count at) (rules_from most jobs file (count + 1) (at + size_at file at)))
+        cond t (answer []) (before (entry at) (rule_reply form jobs file count at) (rules_from form most jobs file (count + 1) (at + size_at file at)))
         ≡ answer es → Fine jobs number count es
     go true f q = fine_none jobs number count es h q
     go false f q =
-        let s = split at (rule_reply jobs file count at) (rules_from most jobs file (count + 1) (at + size_at file at)) es q in
-        let p = passes jobs file count at s.says_first in
+        let s = split at (rule_reply form jobs file count at) (rules_from form most jobs file (count + 1) (at + size_at file at)) es q in
+        let p = passes form jobs file count at s.says_first in
         let own : Each Passes (kind_checks (kind_at file at) jobs file at) = p.1.1.1.1 in
         let fields = subst (Each Passes) (own_checks file at jobs) own in
-        let r = rule_is jobs file count at s.says_first in
-        let n = not_full jobs file count at s.says_first in
+        let r = rule_is form jobs file count at s.says_first in
+        let n = not_full form jobs file count at s.says_first in
         let m = f s.others (omega arith) s.says_more in
         rw s.is
         (record {
@@ -83,31 +84,31 @@ unfolding minutes_from
 minutes_in found h job zero = tt
 minutes_in found h job (suc jobs) = (h job, minutes_in found h (job + 1) jobs)
 
-latest_in : (file : List ℕ) → Listed file → Each InTime (latest_of_file file)
+latest_in : (form : Form) (file : List ℕ) → Listed form file → Each InTime (latest_of_file file)
 unfolding latest_of_file
-latest_in file l =
+latest_in form file l =
     let times = read (latest_records file) in
     minutes_in times (minute_in (word file 2) [] times (good_from (most_jobs + 1) (word file 2) file [] 4 times l.times)) 0 (word file 2)
 
-not_refused : (file : List ℕ) → Listed file → NotRefused (book_of_file file)
+not_refused : (form : Form) (file : List ℕ) → Listed form file → NotRefused (book_of_file form file)
 unfolding book_checks table_checks head_checks jobs_at accepts
-not_refused file l =
-    let f = fine looks (word file 2) file 0 0 (rules_begin file) (entries file) (omega arith) l.all in
-    let n = length-map (entries file) rule_of in
-    let h = (passed (head_checks file) tt (ap accepts l.head)).1.1.1.1.0 in
-    let t : Each Passes (table_checks (word file 2) (rules_of_file file)) =
-    (h, (le-ltb most_rules (length (rules_of_file file)) (omega (arith, n, f.few)), f.pass)) in
-    accepting (book_checks (book_of_file file)) (tt {0})
-    (each_join Passes (table_checks (word file 2) (rules_of_file file)) _ t
-    (latest_passes (word file 2) (latest_of_file file) (latest_length file) (latest_in file l)))
+not_refused form file l =
+    let f = fine form looks (word file 2) file 0 0 (rules_begin file) (entries form file) (omega arith) l.all in
+    let n = length-map (entries form file) rule_of in
+    let h = (passed (head_checks form file) tt (ap accepts l.head)).1.1.1.1.0 in
+    let t : Each Passes (table_checks (word file 2) (rules_of_file form file)) =
+    (h, (le-ltb most_rules (length (rules_of_file form file)) (omega (arith, n, f.few)), f.pass)) in
+    accepting (book_checks (book_of_file form file)) (tt {0})
+    (each_join Passes (table_checks (word file 2) (rules_of_file form file)) _ t
+    (latest_passes (word file 2) (latest_of_file file) (latest_length file) (latest_in form file l)))
 
 pub read_accepted : ReadAccepted
-read_accepted file counts e =
-    (not_refused file (listed file e), listed_jobs file e, listed_rules file e ∙ sym (length-map (entries file) rule_of))
+read_accepted form file counts e =
+    (not_refused form file (listed form file e), listed_jobs form file e, listed_rules form file e ∙ sym (length-map (entries form file) rule_of))
 
 -- 1,024 places hold the rules of any file that is not refused, and 256 its latest times
-pub few_rules : (file : List ℕ) {counts : Counts} → file_reply file ≡ answer counts → counts.rules ≤ most_rules
-few_rules file e = let a = read_accepted file _ e in omega (arith, a.2, ((accepted_iff (book_of_file file)).0 a.0).short)
+pub few_rules : (form : Form) (file : List ℕ) {counts : Counts} → file_reply form file ≡ answer counts → counts.rules ≤ most_rules
+few_rules form file e = let a = read_accepted form file _ e in omega (arith, a.2, ((accepted_iff (book_of_file form file)).0 a.0).short)
 
-pub few_jobs : (file : List ℕ) {counts : Counts} → file_reply file ≡ answer counts → counts.jobs ≤ most_jobs
-few_jobs file e = let a = read_accepted file _ e in omega (arith, a.1, ((accepted_iff (book_of_file file)).0 a.0).few)
+pub few_jobs : (form : Form) (file : List ℕ) {counts : Counts} → file_reply form file ≡ answer counts → counts.jobs ≤ most_jobs
+few_jobs form file e = let a = read_accepted form file _ e in omega (arith, a.1, ((accepted_iff (book_of_file form file)).0 a.0).few)

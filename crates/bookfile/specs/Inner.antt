@@ -6,6 +6,7 @@ use Rattle.derivation.specs.declared.Fault.{Fault}
 use Rattle.derivation.specs.declared.Refusal.{Refusal}
 use Rattle.derivation.specs.Faults.{number_of}
 use Rattle.derivation.specs.Replies.{reply_of}
+use Rattle.bookfile.specs.declared.mark.Form.{Form}
 use Rattle.bookfile.specs.declared.reading.Checked.{Checked}
 use Rattle.bookfile.specs.declared.reading.LatestTime.{LatestTime}
 use Rattle.bookfile.specs.Numbers.{word}
@@ -22,8 +23,8 @@ abbrev pub byte_of : Result ℕ Refusal → Reply ℕ
 byte_of r = reply_of (λ at. at) r
 
 -- the first record says the job count
-unfoldable pub head_reply : List ℕ → Reply ℕ
-head_reply file = reply (head_checks file) (word file 2)
+unfoldable pub head_reply : Form → List ℕ → Reply ℕ
+head_reply form file = reply (head_checks form file) (word file 2)
 
 -- the byte behind the latest times that were read from a byte on
 unfoldable pub ended : ℕ → Reply (List LatestTime) → Reply ℕ
@@ -35,12 +36,12 @@ abbrev pub checked_reply : Result Checked Refusal → Reply Counts
 checked_reply r = reply_of (λ checked. checked.counts) r
 
 -- a file that is not refused
-pub record Listed (file : List ℕ) : Type 0 where
-  pub head : verdict (head_checks file) ≡ answer tt
+pub record Listed (form : Form) (file : List ℕ) : Type 0 where
+  pub head : verdict (head_checks form file) ≡ answer tt
   pub times : latest_records file ≡ answer (read (latest_records file))
-  pub all : rules_of file ≡ answer (entries file)
+  pub all : rules_of form file ≡ answer (entries form file)
 
 -- the record of a rule begins at a byte, and is in the file
-pub record Begins (file : List ℕ) (number at : ℕ) : Type 0 where
-  pub here : drop number (entries file) ≡ entry at (decoded_rule file at) ∷ drop (number + 1) (entries file)
+pub record Begins (form : Form) (file : List ℕ) (number at : ℕ) : Type 0 where
+  pub here : drop number (entries form file) ≡ entry at (decoded_rule file at) ∷ drop (number + 1) (entries form file)
   pub inside : at + size_at file at ≤ length file

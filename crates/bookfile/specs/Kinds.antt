@@ -4,6 +4,8 @@ use Rattle.maxatom.specs.Book.{most_minutes}
 use Rattle.maxatom.specs.declared.Rule.{Rule}
 use Rattle.derivation.specs.Refusals.{Check, check, jobs_check, job_outside, beyond, latest_outside}
 use Rattle.bookfile.specs.Numbers.{word, long, signed16, signed32}
+use Rattle.bookfile.specs.declared.mark.Form.{Form}
+use Rattle.bookfile.specs.declared.mark.Form.TheVariants.{Sent, Stored}
 use Rattle.bookfile.specs.declared.reading.LatestTime.{LatestTime}
 
 -- two weeks: the most hours of an offset without sign
@@ -96,16 +98,17 @@ HR = record {
       ∷ [];
 }
 
--- the kinds of rules' records
-abbrev pub rule_kinds : List (Kind Rule)
-rule_kinds = HR ∷ RU ∷ []
+-- the kinds of rules' records that a file of a form may have: a stored one may have its offsets in hours
+abbrev pub rule_kinds : Form → List (Kind Rule)
+rule_kinds Sent = RU ∷ []
+rule_kinds Stored = HR ∷ RU ∷ []
 
 -- their marks, and all marks
-abbrev pub rule_marks : List ℕ
-rule_marks = map (λ (k : Kind Rule). k.mark) rule_kinds
+abbrev pub rule_marks : Form → List ℕ
+rule_marks form = map (λ (k : Kind Rule). k.mark) (rule_kinds form)
 
-abbrev pub marks : List ℕ
-marks = BK.mark ∷ CE.mark ∷ rule_marks
+abbrev pub marks : Form → List ℕ
+marks form = BK.mark ∷ CE.mark ∷ rule_marks form
 
 -- a number is one of a list
 unfoldable pub among : ℕ → List ℕ → Bool
@@ -118,9 +121,9 @@ kind_among word [] = RU
 kind_among word (k ∷ []) = k
 kind_among word (k ∷ l ∷ more) = cond (eqb word k.mark) k (kind_among word (l ∷ more))
 
--- the kind of a rule's record, by the mark at a byte
+-- the kind of a rule's record, by the mark at a byte: a stored file may have every kind
 unfoldable pub kind_at : List ℕ → ℕ → Kind Rule
-kind_at file at = kind_among (word file at) rule_kinds
+kind_at file at = kind_among (word file at) (rule_kinds Stored)
 
 -- bytes in all of a rule's record
 unfoldable pub size_at : List ℕ → ℕ → ℕ

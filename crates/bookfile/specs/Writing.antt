@@ -1,7 +1,12 @@
--- A plan, written from a byte the caller names.
+-- What is written: a rule's record; and a plan, from a byte the caller names.
 use Rattle.std.specs.Prelude.{List, [], ◌∷◌, ◌++◌, ℕ, ◌+◌, ◌*◌, ltb, length, take, drop, ℤ}
 use Rattle.derivation.specs.Refusals.{Check, check, verdict, lent, jobs_check}
+use Rattle.maxatom.specs.declared.Rule.{Rule}
 use Rattle.bookfile.specs.Numbers.{unsigned32, bytes_of}
+
+-- 12 bytes: `RU` in ASCII, x, y and z (16 bits each), and k (32 bits signed)
+unfoldable pub rule_record : Rule → List ℕ
+rule_record r = 82 ∷ 85 ∷ bytes_of 2 r.x ++ bytes_of 2 r.y ++ bytes_of 2 r.z ++ bytes_of 4 (unsigned32 r.k)
 
 -- 8 bytes a job: `PL` in ASCII, the job (16 bits) and its time (32 bits signed)
 unfoldable pub plan_record : ℕ → ℤ → List ℕ

@@ -1,6 +1,6 @@
-// The marks of a book file's records.
+// The marks of a book file's records, and the forms of the file.
 ghost use Rattle.std.specs.Prelude.{◌≡◌};
-ghost use Rattle.bookfile.specs.Marks.{mark_of, is_rule};
+ghost use Rattle.bookfile.specs.Marks.{mark_of, mark_in, is_rule};
 
 use derivation::Fault;
 
@@ -11,6 +11,13 @@ pub enum Mark {
     Latest,
     Rule,
     Hours,
+}
+
+// The form of a file: one that is sent, which the reader takes, or a stored one, which may have offsets in hours and is for the converter.
+#[derive(Clone, Copy, PartialEq, Eq)]
+pub enum Form {
+    Sent,
+    Stored,
 }
 
 // Each mark's two letters, the first of which is the low byte. They are put together by hand, since a constant's value calls no function.
@@ -37,6 +44,19 @@ impl TryFrom<u16> for Mark {
             HOURS => Ok(Mark::Hours),
             _ => Err(Fault::UnknownMark),
         }
+    }
+}
+
+impl Form {
+    // The mark that is a record's first word in a file of this form.
+    #[tactic(auto, using(crate::proofs::Marks::in_form))]
+    pub fn mark(self, word: u16) -> Result<Mark, Fault>
+        ensures { result ≡ mark_in self word }
+    {
+        if self == Form::Sent && word == HOURS {
+            return Err(Fault::UnknownMark);
+        }
+        Mark::try_from(word)
     }
 }
 

@@ -3,13 +3,14 @@ ghost use Rattle.std.specs.Prelude.{◌≡◌, false, [], ◌+◌, ◌<◌, ◌�
 ghost use Rattle.maxatom.specs.Book.{most_jobs, most_rules};
 ghost use Rattle.derivation.specs.Replies.{read_of};
 ghost use Rattle.bookfile.specs.Numbers.{word};
+ghost use Rattle.bookfile.specs.declared.mark.Form.TheVariants.{Sent};
 ghost use Rattle.bookfile.specs.Kinds.{HR, decoded_latest, size_at, decoded_rule};
 ghost use Rattle.bookfile.specs.Reading.{latest_here, latest_record_reply, latest_from, rule_reply, rules_from, rules_begin, entries, rules_of_file, latest_of_file, place_of, record_of};
 ghost use Rattle.bookfile.specs.Replies.{counted, file_reply, read_reply, read_rules, read_latest};
 ghost use Rattle.bookfile.specs.Inner.{said_at, byte_of, head_reply, ended, checked_reply, Listed, Begins};
 
 use crate::bytes::{signed32, word};
-use crate::mark::Mark;
+use crate::mark::{Form, Mark};
 use derivation::{Counts, Fault, Refusal};
 use maxatom::Rule;
 use std::ops::Range;
@@ -24,9 +25,9 @@ struct LatestTime {
 
 // A file that is not refused: its counts, and the byte where the first rule's record begins.
 #[derive(Clone, Copy)]
-struct Checked {
-    counts: Counts,
-    begin: usize,
+pub struct Checked {
+    pub counts: Counts,
+    pub begin: usize,
 }
 
 // A latest time's record begins at a byte.
@@ -49,7 +50,7 @@ fn decoded_latest(file: &[u8], at: usize) -> LatestTime
 }
 
 // The record that begins at a byte has its offset in hours.
-fn is_in_hours(file: &[u8], at: usize) -> bool
+pub fn is_in_hours(file: &[u8], at: usize) -> bool
     requires { at + 2 ≤ length file.now }
     ensures { result ≡ eqb (word file.now at) HR.mark }
 {
@@ -118,14 +119,14 @@ fn latest_record(file: &[u8], jobs: usize, seen: &[bool], at: usize) -> Result<L
 
 // The record that begins at a byte behind the latest times, count rules already read: its checks in order.
 #[tactic(auto, using(crate::proofs::Records::records))]
-fn read_record(file: &[u8], jobs: usize, count: usize, at: usize) -> Result<Rule, Fault>
+fn read_record(form: Form, file: &[u8], jobs: usize, count: usize, at: usize) -> Result<Rule, Fault>
     requires { at ≤ length file.now }
-    ensures { said_at at result ≡ rule_reply jobs file.now count at }
+    ensures { said_at at result ≡ rule_reply form jobs file.now count at }
 {
     if file.len() - at < 2 {
         return Err(Fault::FileEnds);
     }
-    if !Mark::try_from(word(file, at))?.is_rule() {
+    if !form.mark(word(file, at))?.is_rule() {
         return Err(Fault::RecordPlace);
     }
     if 1024 <= count {
@@ -141,13 +142,13 @@ fn read_record(file: &[u8], jobs: usize, count: usize, at: usize) -> Result<Rule
 
 // The first record, its checks in order: the job count.
 #[tactic(auto, using(crate::proofs::Records::heads))]
-fn check_head(file: &[u8]) -> Result<usize, Fault>
-    ensures { said_at 0 result ≡ head_reply file.now }
+fn check_head(form: Form, file: &[u8]) -> Result<usize, Fault>
+    ensures { said_at 0 result ≡ head_reply form file.now }
 {
     if file.len() < 2 {
         return Err(Fault::FileEnds);
     }
-    if Mark::try_from(word(file, 0))? != Mark::Book {
+    if form.mark(word(file, 0))? != Mark::Book {
         return Err(Fault::RecordPlace);
     }
     if file.len() < 4 {
@@ -182,16 +183,16 @@ fn scan_latest(file: &[u8], jobs: usize) -> Result<usize, Refusal>
 
 // The records of rules, from a byte to the end of the file: their number, or the first refusal.
 #[tactic(auto, using(crate::proofs::Rules::scans))]
-fn scan(file: &[u8], jobs: usize, begin: usize) -> Result<Counts, Refusal>
+fn scan(form: Form, file: &[u8], jobs: usize, begin: usize) -> Result<Counts, Refusal>
     requires { begin ≤ length file.now }
-    ensures { read_of result ≡ counted jobs (rules_from (most_rules + 1) jobs file.now 0 begin) }
+    ensures { read_of result ≡ counted jobs (rules_from form (most_rules + 1) jobs file.now 0 begin) }
 {
     let mut at = begin;
     let mut rules = 0;
     // No range gives these bytes: each record begins where the one before it ends, and they differ in length.
     while at < file.len() {
         // By `if let`, and not by `map_err` and `?`: what a closure is known to give does not reach the loop's invariant.
-        if let Err(fault) = read_record(file, jobs, rules, at) {
+        if let Err(fault) = read_record(form, file, jobs, rules, at) {
             return Err(Refusal { fault, place: at });
         }
         at = next_record(file, at);
@@ -200,33 +201,25 @@ fn scan(file: &[u8], jobs: usize, begin: usize) -> Result<Counts, Refusal>
     Ok(Counts { jobs, rules })
 }
 
-// A whole file, checked, or its first refusal.
+// A whole file of a form, checked, or its first refusal.
 #[tactic(auto, using(crate::proofs::Walks::files))]
-fn check_file(file: &[u8]) -> Result<Checked, Refusal>
-    ensures said { checked_reply result ≡ file_reply file.now }
+pub fn check_file(form: Form, file: &[u8]) -> Result<Checked, Refusal>
+    ensures said { checked_reply result ≡ file_reply form file.now }
     ensures begin { IfOk result (λ checked. checked.begin ≡ rules_begin file.now) }
 {
-    let jobs = check_head(file)?;
+    let jobs = check_head(form, file)?;
     let begin = scan_latest(file, jobs)?;
-    let counts = scan(file, jobs, begin)?;
+    let counts = scan(form, file, jobs, begin)?;
     Ok(Checked { counts, begin })
-}
-
-// The job count and the rule count of a file, or its first refusal.
-pub fn examine(file: &[u8]) -> Result<Counts, Refusal>
-    ensures { read_of result ≡ file_reply file.now }
-{
-    let checked = check_file(file)?;
-    Ok(checked.counts)
 }
 
 // The byte where the record of a rule begins, the first one's byte given.
 #[tactic(auto, using(crate::proofs::Walks::walks))]
 fn begin(file: &[u8], first: usize, number: usize) -> usize
-    requires listed { Listed file.now }
+    requires listed { Listed Sent file.now }
     requires first_is { first ≡ rules_begin file.now }
-    requires number_in_bounds { number < length (entries file.now) }
-    ensures { Begins file.now number result }
+    requires number_in_bounds { number < length (entries Sent file.now) }
+    ensures { Begins Sent file.now number result }
 {
     let mut at = first;
     for _ in 0..number {
@@ -235,13 +228,13 @@ fn begin(file: &[u8], first: usize, number: usize) -> usize
     at
 }
 
-// The bytes of a rule's record, by the rule's number: none if the file is refused or holds no such rule.
+// The bytes of a rule's record, by the rule's number: none if the reader refuses the file or it holds no such rule.
 #[tactic(auto, using(crate::proofs::Walks::places, crate::proofs::Records::size_bounds))]
 pub fn stretch_of(file: &[u8], number: usize) -> Range<usize>
     ensures place { result ≡ place_of file.now number }
     ensures inside { (result.start ≤ result.end) × (result.end ≤ length file.now) }
 {
-    match check_file(file) {
+    match check_file(Form::Sent, file) {
         Ok(checked) if number < checked.counts.rules => {
             let at = begin(file, checked.begin, number);
             at..at + size_at(file, at)
@@ -262,7 +255,7 @@ pub fn record(file: &[u8], number: usize) -> &[u8]
 
 // The latest time of each job, written into a list with a place for each.
 fn write_latest(file: &[u8], latest: &mut [i32])
-    requires listed { Listed file.now }
+    requires listed { Listed Sent file.now }
     requires latest_len { length latest.old ≡ word file.now 2 }
     ensures { latest.new ≡ latest_of_file file.now }
 {
@@ -278,10 +271,10 @@ fn write_latest(file: &[u8], latest: &mut [i32])
 // The rules, from the byte where the first one's record begins, written into a table with a place for each.
 #[tactic(auto, using(crate::proofs::Storing::stored_none))]
 fn write_rules(file: &[u8], begin: usize, rules: &mut [Rule])
-    requires listed { Listed file.now }
+    requires listed { Listed Sent file.now }
     requires begin_is { begin ≡ rules_begin file.now }
-    requires rules_len { length rules.old ≡ length (entries file.now) }
-    ensures { rules.new ≡ rules_of_file file.now }
+    requires rules_len { length rules.old ≡ length (entries Sent file.now) }
+    ensures { rules.new ≡ rules_of_file Sent file.now }
 {
     let mut at = begin;
     for rule in rules.iter_mut() {
@@ -298,7 +291,7 @@ pub fn read_book(file: &[u8], rules: &mut [Rule], latest: &mut [i32]) -> Result<
     ensures rules_after { rules.new ≡ read_rules file.now rules.old latest.old }
     ensures latest_after { latest.new ≡ read_latest file.now rules.old latest.old }
 {
-    let checked = check_file(file)?;
+    let checked = check_file(Form::Sent, file)?;
     let counts = checked.counts;
     if rules.len() < counts.rules || latest.len() < counts.jobs {
         return Err(Fault::Length.into());

@@ -1,10 +1,24 @@
-// The plan writer.
+// The writers of a rule's record and of a plan.
 ghost use Rattle.std.specs.Prelude.{◌≡◌, ◌+◌, ◌*◌, ◌≤◌, length};
 ghost use Rattle.derivation.specs.Refusals.{verdict};
 ghost use Rattle.derivation.specs.Replies.{outcome_reply};
-ghost use Rattle.bookfile.specs.Writing.{plan_record, plan_checks, with_records, plan_out};
+ghost use Rattle.bookfile.specs.Writing.{rule_record, plan_record, plan_checks, with_records, plan_out};
 
 use derivation::{Fault, Refusal};
+use maxatom::Rule;
+
+// The record of a rule, with its offset in minutes.
+pub fn rule_record(r: Rule) -> [u8; 12]
+    ensures { result ≡ rule_record r }
+{
+    let [x, x_high] = r.x.to_le_bytes();
+    let [y, y_high] = r.y.to_le_bytes();
+    let [z, z_high] = r.z.to_le_bytes();
+    let [first, second, third, fourth] = r.k.to_le_bytes();
+    [
+        b'R', b'U', x, x_high, y, y_high, z, z_high, first, second, third, fourth,
+    ]
+}
 
 // The record of one job.
 fn plan_record(job: u16, time: i32) -> [u8; 8]

@@ -61,6 +61,10 @@ pub const NAMED: [(&str, &[u8]); 14] = [
 // A latest time of minute −20,160, for the last of two jobs.
 pub const EARLIEST: &[u8] = b"BK\x02\x00CE\x01\x00\x40\xb1\xff\xff";
 
+// A stored book: a latest time, and three rules, of which the first and the last are in hours.
+pub const IN_HOURS: &[u8] =
+    b"BK\x02\x00CE\x01\x00\xc4\xff\xff\xffHR\x00\x00\x00\x00\x01\x00\xff\xffRU\x00\x00\x01\x00\x00\x00\xff\xff\xff\xffHR\x01\x00\x01\x00\x00\x00\x02\x00";
+
 // Files with latest times at and past the limits, each under its name.
 pub const LATEST_LIMITS: [(&str, &[u8]); 11] = [
     ("minute -20160", EARLIEST),

@@ -34,6 +34,10 @@ done_words u = words 0 0 0
 abbrev pub count_words : Counts → Words
 count_words counts = words 0 counts.jobs counts.rules
 
+-- the converter: the bytes written
+abbrev pub length_words : ℕ → Words
+length_words len = words 0 len 0
+
 -- kept test: all rules are kept, or 1 and the first broken one
 abbrev pub check_words : ModelCheck → Words
 check_words satisfies = words 0 0 0

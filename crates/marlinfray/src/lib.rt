@@ -16,8 +16,9 @@ ghost use Rattle.maxatom.specs.Class.{number_of_class};
 ghost use Rattle.bookfile.specs.Reading.{place_of};
 ghost use Rattle.bookfile.specs.Replies.{read_reply, read_rules, read_latest};
 ghost use Rattle.bookfile.specs.Writing.{plan_checks, plan_out};
+ghost use Rattle.converter.specs.Converting.{convert_reply, convert_out};
 ghost use Rattle.marlinfray.specs.Exported.{words, timed, reply_words, refusal_words, done_words, slip_words, run_words};
-ghost use Rattle.marlinfray.specs.Exported.{count_words, check_words, tight_words, place_words};
+ghost use Rattle.marlinfray.specs.Exported.{count_words, length_words, check_words, tight_words, place_words};
 
 use planner::{Class, Counts, Refusal, Rule, Slip, Solved, Tally};
 
@@ -76,6 +77,15 @@ impl From<Counts> for Words {
 
     fn from(counts: Counts) -> Words {
         Words::new(0, counts.jobs as u64, counts.rules as u64)
+    }
+}
+
+// The converter: the bytes written.
+impl From<usize> for Words {
+    ghost from_gives = { λ len w. w ≡ length_words len };
+
+    fn from(len: usize) -> Words {
+        Words::new(0, len as u64, 0)
     }
 }
 
@@ -168,6 +178,15 @@ pub extern "C" fn marlinfray_record(file: &[u8], number: usize, reply: &mut Word
 {
     let place = bookfile::reading::stretch_of(file, number);
     *reply = Words::new(0, place.start as u64, place.len() as u64);
+}
+
+// The converter.
+#[unsafe(no_mangle)]
+pub extern "C" fn marlinfray_convert(file: &[u8], out: &mut [u8], reply: &mut Words)
+    ensures { (reply.new ≡ reply_words length_words (convert_reply file.now (length out.old)))
+        × (out.new ≡ convert_out file.now out.old) }
+{
+    *reply = converter::convert(file, out).into();
 }
 
 // The class of a rule, as a number, since C reads it: 0 idle, 1 impossible, 2 one-armed, 3 two-armed.

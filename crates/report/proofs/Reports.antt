@@ -23,6 +23,7 @@ use Rattle.derivation.specs.declared.Solved.TheVariants as Solve
 use Rattle.derivation.proofs.AnyOrder.{each_at}
 use Rattle.derivation.proofs.Checks.{accepting, accepted_iff, times_pass}
 use Rattle.derivation.proofs.RunCalls.{call_answered}
+use Rattle.bookfile.specs.declared.mark.Form.TheVariants.{Sent}
 use Rattle.bookfile.specs.Reading.{rules_of_file, latest_of_file, book_of_file}
 use Rattle.bookfile.specs.Replies.{file_reply, room_checks, roomed, read_reply, over, read_rules, read_latest}
 use Rattle.bookfile.proofs.Tables.{read_accepted, few_rules, few_jobs}
@@ -86,39 +87,39 @@ unfolding over
 put_first new places e = rw e (take-append_seam new (drop (length new) places))
 
 -- a file that is not refused
-module _ (file : List ℕ) {counts : Counts} (e : file_reply file ≡ answer counts) where
-  is_accepted : Accepted (book_of_file file)
-  is_accepted = (accepted_iff (book_of_file file)).0 (read_accepted file counts e).0
+module _ (file : List ℕ) {counts : Counts} (e : file_reply Sent file ≡ answer counts) where
+  is_accepted : Accepted (book_of_file Sent file)
+  is_accepted = (accepted_iff (book_of_file Sent file)).0 (read_accepted Sent file counts e).0
 
-  jobs_are : counts.jobs ≡ (book_of_file file).jobs
-  jobs_are = (read_accepted file counts e).1
+  jobs_are : counts.jobs ≡ (book_of_file Sent file).jobs
+  jobs_are = (read_accepted Sent file counts e).1
 
-  rules_are : counts.rules ≡ length (rules_of_file file)
-  rules_are = (read_accepted file counts e).2
+  rules_are : counts.rules ≡ length (rules_of_file Sent file)
+  rules_are = (read_accepted Sent file counts e).2
 
 -- 1,024 places hold the rules of any file that is not refused, and 256 its latest times
-pub read_same : (file : List ℕ) → read_reply file 1024 256 ≡ file_reply file
+pub read_same : (file : List ℕ) → read_reply file 1024 256 ≡ file_reply Sent file
 unfolding read_reply roomed
-read_same file = go (file_reply file) refl
+read_same file = go (file_reply Sent file) refl
   where
-    go : (r : Reply Counts) → file_reply file ≡ r → roomed 1024 256 r ≡ r
+    go : (r : Reply Counts) → file_reply Sent file ≡ r → roomed 1024 256 r ≡ r
     go (refused number place) e = refl
     go (answer counts) e =
         accepting (room_checks 1024 256 counts) counts
-        (le-ltb 1024 counts.rules (few_rules file e), (le-ltb 256 counts.jobs (few_jobs file e), tt))
+        (le-ltb 1024 counts.rules (few_rules Sent file e), (le-ltb 256 counts.jobs (few_jobs Sent file e), tt))
 
 -- what the reader says of a table of 1,024 places and a list of 256, and what it leaves in them
 module _ (file : List ℕ) {counts : Counts} (said : answer counts ≡ read_reply file 1024 256) where
-  pub answered : file_reply file ≡ answer counts
+  pub answered : file_reply Sent file ≡ answer counts
   answered = sym (said ∙ read_same file)
 
   pub room : (counts.rules ≤ 1024) × (counts.jobs ≤ 256)
-  room = (few_rules file answered, few_jobs file answered)
+  room = (few_rules Sent file answered, few_jobs Sent file answered)
 
   module _ (rules : List Rule) (latest : List ℤ) (m : length rules ≡ 1024) (n : length latest ≡ 256) where
-    rules_read : take counts.rules (read_rules file rules latest) ≡ rules_of_file file
+    rules_read : take counts.rules (read_rules file rules latest) ≡ rules_of_file Sent file
     unfolding read_rules lent
-    rules_read = rw (m, n, ← said) (put_first (rules_of_file file) rules (rules_are file answered))
+    rules_read = rw (m, n, ← said) (put_first (rules_of_file Sent file) rules (rules_are file answered))
 
     latest_read : take counts.jobs (read_latest file rules latest) ≡ latest_of_file file
     unfolding read_latest lent
@@ -129,7 +130,7 @@ module _ (file : List ℕ) {counts : Counts} (said : answer counts ≡ read_repl
       abbrev pub read : Book
       read = let first = take counts.jobs l in book (length first) first (take counts.rules r)
 
-      pub read_is : read ≡ book_of_file file
+      pub read_is : read ≡ book_of_file Sent file
       read_is = rw (p, q, rules_read, latest_read, (is_accepted file answered).size) refl
 
       pub accepted_read : Accepted read

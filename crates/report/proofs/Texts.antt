@@ -6,13 +6,13 @@ use Prim.Native.Nat.{ℕ, zero, suc, ◌+◌, ◌/◌, ◌%◌, ◌^◌, ◌<◌
 use native.Mathlib.Nat.{pow-suc}
 use native.Mathlib.Omega.{arith}
 use lib.Dec.{ltb}
-use lib.ListN.{length, set, length-append}
+use lib.ListN.{length, take, drop, set, length-append}
 use lib.IntN.{ℤ, pos, negsuc, nat_abs}
 use lib.Signed.{lt_z}
-use lib.Seq.{sets}
+use lib.Seq.{sets, sets-eq, take_at}
 use borrow.Author.Tests.{lt-ltb, le-ltb, ltb-true, ltb-false}
 use Rattle.maxatom.proofs.Choose.{cond_yes, cond_no, clash}
-use Rattle.report.specs.Text.{digits, decimal, field, signed_field}
+use Rattle.report.specs.Text.{Written, digits, decimal, field, signed_field}
 use Rattle.report.specs.Inner.{Writes}
 use Rattle.report.specs.declared.text.Text.{Text}
 
@@ -30,6 +30,13 @@ writes_then {t = t} {u = u} {xs = xs} {ys = ys} a b =
       };
       same = b.same ∙ a.same;
     }
+
+-- a text that was written at the start of a buffer
+pub written_take : {before bytes after : List ℕ} {next : ℕ} → Written before 0 bytes after next → next ≤ length before → take next after ≡ bytes
+written_take {before = before} {bytes = bytes} {next = next} w h =
+    let to = w.to in
+    rw (w.is, sets-eq bytes before 0 (omega (arith, to, h)))
+    (take_at bytes (drop (0 + length bytes) before) next (omega (arith, to)))
 
 -- any fuel above the number serves
 fuel_enough : (k l n : ℕ) → n < k → n < l → digits k n ≡ digits l n

@@ -4,6 +4,7 @@ use Rattle.maxatom.specs.Book.{Book}
 use Rattle.derivation.specs.Refusals.{Reply, refused, answer}
 use Rattle.maxatom.specs.Runs.{End, planned, fell, unfinished}
 use Rattle.derivation.specs.Calls.{Answer, run_reply, run_times}
+use Rattle.bookfile.specs.declared.mark.Form.TheVariants.{Sent}
 use Rattle.bookfile.specs.Reading.{book_of_file}
 use Rattle.bookfile.specs.Replies.{file_reply}
 use Rattle.derivation.specs.declared.Counts.{Counts}
@@ -30,4 +31,4 @@ read_text b (answer counts) = table_text b (replicate b.jobs (pos 0))
 
 -- a file
 unfoldable pub report_of : List ℕ → List ℕ
-report_of file = read_text (book_of_file file) (file_reply file)
+report_of file = read_text (book_of_file Sent file) (file_reply Sent file)

@@ -1,4 +1,4 @@
-// The text that latest prints.
+// The text that latest prints, and the line of a refusal alone.
 
 #![tactic(auto)]
 
@@ -7,3 +7,4 @@ mod lines;
 pub mod text;
 
 pub use latest::report;
+pub use lines::refused_line;

@@ -4,6 +4,7 @@ ghost use Rattle.std.specs.Prelude.{◌++◌, ◌+◌, ◌<◌, ◌≤◌, ◌^�
 ghost use Rattle.maxatom.specs.Book.{most_jobs, most_rules, Each, total};
 ghost use Rattle.maxatom.specs.Accepted.{InBook};
 ghost use Rattle.derivation.specs.Faults.{number_of};
+ghost use Rattle.report.specs.Text.{Written};
 ghost use Rattle.report.specs.Inner.{Writes};
 ghost use Rattle.report.specs.Report.{book_line, job_line, job_lines, tight_fields, tight_line, steps_line, none_line, refused_line, plan_text};
 
@@ -130,4 +131,14 @@ impl Text<'_> {
         self.none_line(slip);
         self.steps_line(steps);
     }
+}
+
+// The line of a refusal, into a lent buffer: where it ends.
+pub fn refused_line(refusal: Refusal, out: &mut [u8]) -> usize
+    ensures written { Written out.old 0 (refused_line (number_of refusal.fault) refusal.place) out.new result }
+    ensures upper_bound { result ≤ 80 }
+{
+    let mut text = Text::new(out);
+    text.refused_line(refusal);
+    text.end
 }

@@ -4,8 +4,6 @@ use mathlib.Core.List.{List, [], ◌∷◌, ◌++◌, append_assoc, append-nil}
 use Prim.Native.Nat.{ℕ, zero, suc, ◌+◌, ◌-◌, ◌^◌, ◌<◌, ◌≤◌}
 use native.Mathlib.Omega.{arith}
 use lib.ListN.{length, take, drop, set, get_or, length-append}
-use lib.Seq.{sets-eq}
-use Rattle.report.specs.Text.{Written}
 use Rattle.session.specs.declared.board.Board.{Board}
 use Rattle.session.specs.Boards.{book_of}
 use borrow.Author.Tests.{ne_eqb}
@@ -112,13 +110,6 @@ one_byte (b ∷ []) zero e h f = absurd (f refl)
 one_byte (b ∷ []) (suc zero) e h f = refl
 one_byte (b ∷ []) (suc (suc n)) e h f = absurd (omega (arith, h))
 one_byte (b ∷ c ∷ buf) n e h f = absurd (omega (arith, e))
-
--- a text that was written at the start of a buffer
-pub written_take : {before bytes after : List ℕ} {next : ℕ} → Written before 0 bytes after next → next ≤ length before → take next after ≡ bytes
-written_take {before = before} {bytes = bytes} {next = next} w h =
-    let to = w.to in
-    rw (w.is, sets-eq bytes before 0 (omega (arith, to, h)))
-    (take_at bytes (drop (0 + length bytes) before) next (omega (arith, to)))
 
 pub on_map : {A E P Q : Type 0} (r : Result A E) → (P → Q) → OnOk r P → OnOk r Q
 on_map (Ok a) f p = f p

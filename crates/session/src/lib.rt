@@ -6,6 +6,7 @@ mod board;
 
 ghost use Rattle.std.specs.Prelude.{◌≤◌, length, OnOk};
 ghost use Rattle.std.specs.Io.KnownBytes.{Appends};
+ghost use Rattle.bookfile.specs.declared.mark.Form.TheVariants.{Sent};
 ghost use Rattle.bookfile.specs.Reading.{book_of_file};
 ghost use Rattle.bookfile.specs.Replies.{file_reply};
 ghost use Rattle.session.specs.Boards.{book_of, stands, Left};
@@ -71,7 +72,7 @@ fn serve<R: Read, W: Write>(board: &mut Board, input: &mut R, output: &mut W) ->
 // A session on the book of a file, which begins with a fresh board; a refused file is said in one line.
 #[tactic(auto, using(report::proofs::Reports::room, report::proofs::Reports::take_length))]
 pub fn session<R: Read, W: Write>(file: &[u8], input: &mut R, output: &mut W) -> io::Result<()>
-    ensures held { OnOk result (Held (file_reply file.now) (book_of_file file.now)
+    ensures held { OnOk result (Held (file_reply Sent file.now) (book_of_file Sent file.now)
         (R.remaining input.old) (R.remaining input.new) (W.contents output.old) (W.contents output.new)) }
 {
     // Nothing is allocated here: the rules, the latest times and the times are the first places of arrays, as many as the reader counts.

@@ -1,9 +1,10 @@
 use Rattle.std.proofs.Common.{arith, refl, length}
 use borrow.Author.Tests.{true-eqb, false-eqb}
 use Rattle.std.proofs.KnownBytes.{Appends-nil, Appends-kept}
+use Rattle.report.proofs.Texts.{written_take}
 use Rattle.session.specs.Boards.{book_of, stands}
 use Rattle.session.specs.Turns.{line_turn}
-use Rattle.session.proofs.Sessions.{ended_none, ended_some, on_ok, written_take}
+use Rattle.session.proofs.Sessions.{ended_none, ended_some, on_ok}
 use Rattle.session.proofs.answer.Goals as goal
 
 pub returns-then-is_empty-clause-left : goal.returns-then-is_empty-clause-left

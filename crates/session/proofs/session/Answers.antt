@@ -1,12 +1,14 @@
 use Rattle.std.proofs.Common.{arith, ◌∙◌, refl, ap}
 use Rattle.maxatom.specs.Book.{Book}
 use Rattle.derivation.specs.Step.{initial}
+use Rattle.bookfile.specs.declared.mark.Form.TheVariants.{Sent}
 use Rattle.bookfile.specs.Reading.{book_of_file}
+use Rattle.report.proofs.Texts.{written_take}
 use Rattle.report.proofs.Reports.{read_same, answered, read_is}
 use Rattle.commands.specs.Answers.{answer_text}
 use Rattle.session.specs.Sessions.{Held}
 use Rattle.session.proofs.Turns.{state_is}
-use Rattle.session.proofs.Sessions.{written_take, on_map, served_as}
+use Rattle.session.proofs.Sessions.{on_map, served_as}
 use Rattle.session.proofs.session.Goals as goal
 
 pub returns-in-Ok : goal.returns-in-Ok
@@ -14,7 +16,7 @@ unfolding Held
 returns-in-Ok g c =
     let e = c.in-Ok.ensures in
     let same = read_is _ e.said _ _ refl refl e.rules_after e.latest_after in
-    let state = state_is (initial (book_of_file c.args.file.now)) (c.copy_from_slice.ensures.after ∙ ap (λ (b : Book). b.latest) same) refl in
+    let state = state_is (initial (book_of_file Sent c.args.file.now)) (c.copy_from_slice.ensures.after ∙ ap (λ (b : Book). b.latest) same) refl in
     record { held = rw (answered _ e.said) (on_map c.serve.result (served_as same state) c.serve.ensures.served) }
 
 pub returns-in-Err : goal.returns-in-Err

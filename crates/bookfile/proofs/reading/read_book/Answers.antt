@@ -22,10 +22,10 @@ returns-then-rules-counts-clause-latest_after c =
     latest_left _ _ _ (read_short _ _ _ (sym c.in_ok-checked.ensures.said) c.then-rules-counts.either)
 
 pub write_latest-requires-clause-latest_len : goal.write_latest-requires-clause-latest_len
-write_latest-requires-clause-latest_len c = length-take-le _ _ c.if-latest-counts.false ∙ listed_jobs _ (sym c.in_ok-checked.ensures.said)
+write_latest-requires-clause-latest_len c = length-take-le _ _ c.if-latest-counts.false ∙ listed_jobs _ _ (sym c.in_ok-checked.ensures.said)
 
 pub write_rules-requires-clause-rules_len : goal.write_rules-requires-clause-rules_len
-write_rules-requires-clause-rules_len c = length-take-le _ _ c.if-rules-counts.false ∙ listed_rules _ (sym c.in_ok-checked.ensures.said)
+write_rules-requires-clause-rules_len c = length-take-le _ _ c.if-rules-counts.false ∙ listed_rules _ _ (sym c.in_ok-checked.ensures.said)
 
 pub returns-clause-rules_after : goal.returns-clause-rules_after
 returns-clause-rules_after c =

@@ -13,7 +13,7 @@ use Rattle.bookfile.proofs.reading.write_latest.Goals as goal
 
 pub loop-time-init : goal.loop-time-init
 loop-time-init c =
-    filled_none _ c.requires.listed (c.fill.ensures.after (λ y e. e) ∙ ap (λ (n : ℕ). replicate n (pos 0)) c.requires.latest_len)
+    filled_none _ _ c.requires.listed (c.fill.ensures.after (λ y e. e) ∙ ap (λ (n : ℕ). replicate n (pos 0)) c.requires.latest_len)
 
 pub decoded_latest-time-requires : goal.decoded_latest-time-requires
 decoded_latest-time-requires c = (turn c.loop-time.invariant (sym c.loop-time-test.ensures)).inside

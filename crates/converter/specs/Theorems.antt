@@ -1,0 +1,72 @@
+-- What is true of converting.
+use Rattle.std.specs.Prelude.{◌≡◌, false, List, [], ◌∷◌, ◌++◌, ℕ, ◌≤◌, eqb, length, take}
+use Rattle.maxatom.specs.Book.{Each}
+use Rattle.derivation.specs.Refusals.{refused, answer}
+use Rattle.derivation.specs.Run.{solve}
+use Rattle.derivation.specs.Demand1.{Refusing}
+use Rattle.derivation.specs.declared.Counts.{Counts}
+use Rattle.bookfile.specs.declared.mark.Form.{Form}
+use Rattle.bookfile.specs.declared.mark.Form.TheVariants.{Sent, Stored}
+use Rattle.bookfile.specs.Numbers.{word}
+use Rattle.bookfile.specs.Kinds.{HR}
+use Rattle.bookfile.specs.Reading.{Placed, entries, book_of_file}
+use Rattle.bookfile.specs.Replies.{file_reply}
+use Rattle.bookfile.specs.Theorems.{file_checks, file_hours}
+use Rattle.converter.specs.Converting.{converted, output_checks, convert_reply, convert_out}
+
+-- demand 1: the refusals of a stored file, then 21, each said when its condition is the first to hold; and a refusal changes nothing that
+-- was lent
+abbrev pub ConverterDemand1 : Type 0
+ConverterDemand1 =
+    (file out : List ℕ) →
+    Refusing (1 ∷ 2 ∷ 3 ∷ 4 ∷ 5 ∷ 6 ∷ 7 ∷ 8 ∷ 9 ∷ 21 ∷ []) (file_checks Stored file ++ output_checks file (length out))
+    (convert_reply file (length out)) out (convert_out file out)
+
+-- a rule's record has its offset in minutes
+abbrev pub Minutes : List ℕ → Placed → Type 0
+Minutes file e = eqb (word file e.at) HR.mark ≡ false
+
+-- a file whose rules have their offsets in minutes, all of them
+abbrev pub InMinutes : List ℕ → Type 0
+InMinutes file = Each (Minutes file) (entries Stored file)
+
+-- a stored file that is not refused, converted
+pub record Converts (file : List ℕ) : Type 0 where
+  -- it is taken by the reader, and by the converter again, with the job count and the rule count of the file
+  pub counts : (form : Form) → file_reply form (converted file) ≡ file_reply Stored file
+  -- and is read to the file's book: job count, latest times, and rules, rule for rule
+  pub book : (form : Form) → book_of_file form (converted file) ≡ book_of_file Stored file
+  -- so the bench run says what it said of the file: plan or none, and the step count
+  pub run : solve (book_of_file Sent (converted file)) ≡ solve (book_of_file Stored file)
+  -- no rule of it has its offset in hours
+  pub minutes : InMinutes (converted file)
+  -- a file without hours is converted to itself,
+  pub itself : InMinutes file → converted file ≡ file
+  -- and so is a converted one: converting twice changes nothing more
+  pub twice : converted (converted file) ≡ converted file
+
+abbrev pub Converting : Type 0
+Converting = (file : List ℕ) (counts : Counts) → file_reply Stored file ≡ answer counts → Converts file
+
+-- a file that the reader takes, the converter takes too, and converts to itself
+abbrev pub SentConverts : Type 0
+SentConverts =
+    (file : List ℕ) (counts : Counts) → file_reply Sent file ≡ answer counts →
+    (file_reply Stored file ≡ answer counts) × (converted file ≡ file)
+
+-- the first 16,384 bytes of a file decide what the converter says and writes
+abbrev pub ConvertsFirst : Type 0
+ConvertsFirst =
+    (file out : List ℕ) →
+    (convert_reply (take 16384 file) (length out) ≡ convert_reply file (length out))
+    × (convert_out (take 16384 file) out ≡ convert_out file out)
+
+-- and 16,384 bytes hold any converted file
+abbrev pub ConvertedFits : Type 0
+ConvertedFits = (file : List ℕ) (counts : Counts) → file_reply Stored file ≡ answer counts → length (converted file) ≤ 16384
+
+-- the converted file of `file_hours`: its one rule has an offset of −60 minutes
+pub record ConvertExample : Type 0 where
+  pub hours : converted file_hours ≡ 66 ∷ 75 ∷ 2 ∷ 0 ∷ 82 ∷ 85 ∷ 0 ∷ 0 ∷ 0 ∷ 0 ∷ 1 ∷ 0 ∷ 196 ∷ 255 ∷ 255 ∷ 255 ∷ []
+  pub length : convert_reply file_hours 16 ≡ answer 16
+  pub short : convert_reply file_hours 15 ≡ refused 21 0
