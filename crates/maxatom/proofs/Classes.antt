@@ -1,61 +1,28 @@
--- The class of a rule: by its number, exactly one, and what each means. Assumes nothing.
+-- The class of a rule: exactly one, the same in the paper's order, and what each means. Assumes nothing.
 use mathlib.Core.Path.{◌≡◌, refl, sym, ap, ◌∙◌}
 use mathlib.Core.Logic.{◌⊎◌, inl, inr, ⊎_elim}
-use mathlib.Core.Bool.{Bool, true, false, cond, not, ◌&&◌, ◌||◌, xor}
+use mathlib.Core.Bool.{Bool, true, false, not, ◌&&◌, ◌||◌, xor}
 use mathlib.Core.List.{List}
-use Prim.Native.Nat.{ℕ, ◌+◌, ◌*◌}
+use Prim.Native.Nat.{ℕ, ◌+◌}
 use native.Mathlib.Omega.{arith}
 use lib.Dec.{eqb}
 use lib.IntN.{ℤ, pos, ◌+ℤ◌}
-use lib.Signed.{◌≤ℤ◌, ◌<ℤ◌, lt_z, le_z}
-use borrow.Author.Tests.{eqb-true, eqb-false, not-true}
-use Rattle.std.specs.Int.{from_bool}
+use lib.Signed.{◌≤ℤ◌, ◌<ℤ◌, le_z}
+use borrow.Author.Tests.{eqb-true, not-true}
 use Rattle.maxatom.specs.Rule.{time_at, max_z, left_side, satisfied}
-use Rattle.maxatom.specs.Class.{negative, tautology, contradiction, difference, disjunctive, class_of, acting_twice, bit_of, ClassMeaning}
-use Rattle.maxatom.specs.ClassNumber.{shape_of, class_at}
+use Rattle.maxatom.specs.Class.{negative, tautology, contradiction, difference, disjunctive, class_of, acting_twice, bit_of, ClassMeaning, class_in_order, SameInOrder}
 use Rattle.maxatom.specs.declared.Rule.{Rule}
-use Rattle.maxatom.specs.declared.Class.TheVariants.{Tautology, Contradiction, Difference, Disjunctive}
 use Rattle.maxatom.proofs.Choose.{cond_yes, cond_no, clash}
 use Rattle.maxatom.proofs.Integers.{le_read, le_make, lt_read, add_parts, le_true, true_le, lt_true, lt_false, by_test, ≤ℤ-trans, add_mono, max_left, max_right, max_split}
 
--- the tests of the classes: a and b that z is x and y, e that x is y, g that k is negative
-one_bit : Bool → Bool → Bool → Bool → Bool
-one_bit a b e g = g && xor a b || (not a && e)
-
-table : (a b e g : Bool) → (a ≡ false → b ≡ true → e ≡ true → ⊥) →
-    (bit_of (not g && (a || b)) + bit_of (g && (a && b)) + bit_of (one_bit a b e g)
-    + bit_of (not (not g && (a || b)) && (not (g && (a && b)) && not (one_bit a b e g))) ≡ 1)
-    × (class_at (cond a (2 + bit_of b) (cond b 2 (bit_of e)) + 4 * bit_of g)
-    ≡ cond (not g && (a || b)) Tautology (cond (g && (a && b)) Contradiction (cond (one_bit a b e g) Difference Disjunctive)))
-unfolding class_at one_bit xor
-table true true e true h = (refl, refl)
-table true true e false h = (refl, refl)
-table true false e true h = (refl, refl)
-table true false e false h = (refl, refl)
-table false true true g h = absurd (h refl refl refl)
-table false true false true h = (refl, refl)
-table false true false false h = (refl, refl)
-table false false true true h = (refl, refl)
-table false false true false h = (refl, refl)
-table false false false true h = (refl, refl)
-table false false false false h = (refl, refl)
-
--- the library's number of a test is its bit
-pub bit_is : (b : Bool) → from_bool b ≡ bit_of b
-bit_is true = refl
-bit_is false = refl
-
 module _ (r : Rule) where
-  agree : eqb r.z r.x ≡ false → eqb r.z r.y ≡ true → eqb r.x r.y ≡ true → ⊥
-  agree p q e = eqb-false r.z r.x p (eqb-true r.z r.y q ∙ sym (eqb-true r.x r.y e))
-
-  pub by_number : class_at (shape_of r.x r.y r.z + 4 * bit_of (lt_z r.k (pos 0))) ≡ class_of r
-  unfolding shape_of class_of tautology contradiction difference one_bit
-  by_number = (table (eqb r.z r.x) (eqb r.z r.y) (eqb r.x r.y) (negative r) agree).1
+  pub same_in_order : SameInOrder r
+  unfolding class_in_order class_of tautology contradiction difference xor
+  same_in_order = grind arith
 
   exactly : bit_of (tautology r) + bit_of (contradiction r) + bit_of (difference r) + bit_of (disjunctive r) ≡ 1
-  unfolding tautology contradiction difference disjunctive one_bit
-  exactly = (table (eqb r.z r.x) (eqb r.z r.y) (eqb r.x r.y) (negative r) agree).0
+  unfolding tautology contradiction difference disjunctive xor
+  exactly = grind arith
 
 -- of four tests of which one holds, the others fail
 others : (a b c d : Bool) → bit_of a + bit_of b + bit_of c + bit_of d ≡ 1 → a ≡ true → (b ≡ false) × (c ≡ false) × (d ≡ false)

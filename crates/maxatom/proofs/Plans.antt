@@ -8,7 +8,7 @@ use native.Mathlib.Omega.{arith}
 use lib.ListN.{length, length-map}
 use lib.Seq.{ext_get_or}
 use lib.IntN.{ℤ, pos, ◌+ℤ◌}
-use lib.Signed.{◌≤ℤ◌, ◌<ℤ◌, lt_z}
+use lib.Signed.{◌<ℤ◌, lt_z}
 use Rattle.maxatom.specs.Rule.{time_at}
 use Rattle.maxatom.specs.Book.{Book, Each, AllSatisfied, Model, Under, Plan}
 use Rattle.maxatom.specs.Accepted.{InBook, Accepted}

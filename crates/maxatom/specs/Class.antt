@@ -58,3 +58,15 @@ pub record ClassMeaning (r : Rule) : Type 0 where
   pub by_every : tautology r ≡ true → (times : List ℤ) → satisfied r times ≡ true
   pub by_none : contradiction r ≡ true → (times : List ℤ) → satisfied r times ≡ false
   pub by_acting : difference r ≡ true → (times : List ℤ) → satisfied r times ≡ satisfied (acting_twice r) times
+
+-- the class in the order of section 3 of the paper: impossible, then idle, then one-armed, whose test is by then only that x is y, or that
+-- z is x or y; the rest is two-armed
+unfoldable pub class_in_order : Rule → Class
+class_in_order r =
+    cond (contradiction r) Contradiction
+    (cond (tautology r) Tautology
+    (cond (eqb r.x r.y || (eqb r.z r.x || eqb r.z r.y)) Difference Disjunctive))
+
+-- that order gives the rule its class
+abbrev pub SameInOrder : Rule → Type 0
+SameInOrder r = class_in_order r ≡ class_of r

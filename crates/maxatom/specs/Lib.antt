@@ -1,6 +1,5 @@
 pub mod Rule
 pub mod Class
-pub mod ClassNumber
 pub mod Book
 pub mod Accepted
 pub mod Clauses

@@ -1,9 +1,7 @@
 #![tactic(auto)]
 
-ghost use Rattle.std.specs.Prelude.{◌≡◌, ◌+◌, ◌*◌, ◌≤◌, pos};
-ghost use Rattle.std.specs.Int.Signed.{lt_z};
-ghost use Rattle.maxatom.specs.Class.{bit_of, class_of};
-ghost use Rattle.maxatom.specs.ClassNumber.{shape_of, class_at};
+ghost use Rattle.std.specs.Prelude.{◌≡◌, ◌≤◌};
+ghost use Rattle.maxatom.specs.Class.{class_of, class_in_order, number_of_class};
 
 // A max-atom, max(x, y) + k ≥ z over the times of three jobs: a rule of a book.
 #[repr(C)]
@@ -40,40 +38,45 @@ pub enum Class {
     Disjunctive,
 }
 
-// Where z stands: apart from two jobs (0) or from one (1), one of two jobs (2), or all three are one (3). It is a number, since the class
-// number is made of it.
-#[tactic(auto, unfolding(crate::specs::ClassNumber::shape_of))]
-fn shape(r: Rule) -> u8
-    ensures { (result ≡ shape_of r.x r.y r.z) × (result ≤ 3) }
+// The number of the rule's class, decided in the order of section 3 of the paper: impossible (1), then idle (0), then one-armed (2), whose
+// test is by then only that x is y, or that z is x or y; the rest is two-armed (3). The first test asks for the jobs before the offset,
+// since few rules name one job alone.
+#[tactic(auto, unfolding(crate::specs::Class::contradiction, crate::specs::Class::tautology, crate::specs::Class::class_in_order, crate::specs::Class::number_of_class))]
+fn class_number(r: Rule) -> u8
+    ensures { result ≡ number_of_class (class_in_order r) }
 {
-    if r.z == r.x {
-        return 2 + u8::from(r.z == r.y);
+    if r.z == r.x && r.z == r.y && r.k < 0 {
+        return 1;
     }
-    if r.z == r.y { 2 } else { u8::from(r.x == r.y) }
+    if r.k >= 0 && (r.z == r.x || r.z == r.y) {
+        return 0;
+    }
+    if r.x == r.y || r.z == r.x || r.z == r.y {
+        return 2;
+    }
+    3
 }
 
-// The class by its number: the shape, and 4 more where the offset is negative. It stays a number, since the project asks that a match
-// over a small class number decides and reports the class.
-#[tactic(auto, unfolding(crate::specs::ClassNumber::class_at))]
-fn class_at(c: u8) -> Class
-    ensures { result ≡ class_at c }
+// The class with this number; a match reports it, as the project asks. `class_number` decides.
+#[tactic(auto, unfolding(crate::specs::Class::number_of_class))]
+fn class_at(number: u8) -> Class
+    requires { number ≤ 3 }
+    ensures { number_of_class result ≡ number }
 {
-    match c {
-        1 => Class::Difference,
-        2 => Class::Tautology,
-        3 => Class::Tautology,
-        5 => Class::Difference,
-        6 => Class::Difference,
-        7 => Class::Contradiction,
+    match number {
+        0 => Class::Tautology,
+        1 => Class::Contradiction,
+        2 => Class::Difference,
         _ => Class::Disjunctive,
     }
 }
 
 impl Rule {
     // The class of the rule, whatever its numbers.
+    #[tactic(auto, using(crate::proofs::Classes::same_in_order), unfolding(crate::specs::Class::number_of_class))]
     pub fn class(self) -> Class
         ensures { result ≡ class_of self }
     {
-        class_at(shape(self) + 4 * u8::from(self.k < 0))
+        class_at(class_number(self))
     }
 }
