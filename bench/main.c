@@ -49,6 +49,11 @@ static int32_t smallest_of(size_t n, const int32_t *latest, marlinfray_reply *re
     return smallest;
 }
 
+// A rule that sets a job before itself, which the calls refuse.
+static int is_impossible(marlinfray_rule r) {
+    return r.k < 0 && r.x == r.y && r.y == r.z;
+}
+
 // The floor of a book that isn't refused, and its smallest latest time; else 1 and the refusal: the same checks as the library's.
 static int32_t floor_of(size_t n, const marlinfray_rule *rules, size_t count, const int32_t *latest, size_t latest_len, size_t times_len,
                         int32_t *smallest, marlinfray_reply *reply) {
@@ -62,6 +67,8 @@ static int32_t floor_of(size_t n, const marlinfray_rule *rules, size_t count, co
             return refuse(reply, MARLINFRAY_REFUSED_JOB, i);
         if (rules[i].k < -OFFSET || OFFSET < rules[i].k)
             return refuse(reply, MARLINFRAY_REFUSED_OFFSET, i);
+        if (is_impossible(rules[i]))
+            return refuse(reply, MARLINFRAY_REFUSED_IMPOSSIBLE, i);
         k += abs(rules[i].k);
     }
     if (latest_len != n)
@@ -186,8 +193,12 @@ __attribute__((noipa)) static int straight_step(size_t n, const marlinfray_rule 
 
 // ---- families ----
 
-static void rule(Book *b, int x, int y, int k, int z) {
-    b->rules[b->count++] = (marlinfray_rule){x, y, z, k};
+// Adds a rule, but for an impossible one; answers how many it added.
+static int rule(Book *b, int x, int y, int k, int z) {
+    marlinfray_rule r = {x, y, z, k};
+    b->rules[b->count] = r;
+    b->count += !is_impossible(r);
+    return !is_impossible(r);
 }
 
 static void swap(Book *b, size_t i, size_t j) {
@@ -339,8 +350,8 @@ static void random_plan(Book *b, int o, int n, int count) {
 // Every job has a rule with a negative offset, so none can be the latest of a model.
 static void random_none(Book *b, int o, int n, int count) {
     b->n = n;
-    for (int i = 0; i < n; i++)
-        rule(b, below(n), below(n), -1 - below(o / 100), i);
+    for (int i = 0; i < n;)
+        i += rule(b, below(n), below(n), -1 - below(o / 100), i);
     while (b->count < (size_t)count)
         rule(b, below(n), below(n), below(2 * o + 1) - o, below(n));
 }

@@ -25,17 +25,20 @@ MOST = 2**64 - 1
 HUGE = 2**16, 2**32 - 1, 2**32, 2**32 + 1, 2**63, MOST - 7, MOST
 
 REFUSALS = {
-    "read_book": {1, 2, 3, 4, 5, 6, 7, 8, 9, 21},
+    "read_book": {1, 2, 3, 4, 5, 6, 7, 8, 9, 10, 21},
     "convert": {1, 2, 3, 4, 5, 6, 7, 8, 9, 21},
-    "first_violated": {4, 5, 6, 7, 8, 21},
-    "is_tight": {4, 5, 6, 7, 8, 21, 24},
+    "first_violated": {4, 5, 6, 7, 8, 10, 21},
+    "is_tight": {4, 5, 6, 7, 8, 10, 21, 24},
     "initial": {4, 8, 21},
-    "step": {4, 5, 6, 7, 8, 21, 22, 23, 24, 25, 26},
-    "step_back": {4, 5, 6, 7, 8, 21, 22, 23, 27, 28, 29},
-    "solve": {4, 5, 6, 7, 8, 21},
+    "step": {4, 5, 6, 7, 8, 10, 21, 22, 23, 24, 25, 26},
+    "step_back": {4, 5, 6, 7, 8, 10, 21, 22, 23, 27, 28, 29},
+    "solve": {4, 5, 6, 7, 8, 10, 21},
     "write_plan": {4, 21},
 }
 seen = {call: set() for call in REFUSALS}
+
+# the examples that no call refuses
+EXAMPLES = [b for b in ref.EXAMPLES.values() if not ref.fault(*b, b[2])]
 
 
 # ---- lines
@@ -166,13 +169,23 @@ def any_latest(n):
     return latest
 
 
+def is_impossible(rule):
+    return ref.class_of(*rule) == ref.IMPOSSIBLE
+
+
 def any_rules(n, count, size):
-    """Rules that may well contradict each other; jobs often coincide."""
+    """Rules that may well contradict each other, though none is impossible; jobs often coincide."""
     rules = []
     for _ in range(count):
         x, y, z = (rng.randrange(n) for _ in range(3))
         y, z = rng.choice(((y, z), (x, z), (y, x), (y, y), (x, x)) if rng.random() < 0.5 else ((y, z),))
-        rules.append((x, y, z, rng.choice((rng.randint(-size, size), rng.randint(-size // 60, size // 60) * 60))))
+        k = rng.choice((rng.randint(-size, size), rng.randint(-size // 60, size // 60) * 60))
+        if is_impossible((x, y, z, k)):
+            if n > 1:
+                z = (z + rng.randrange(1, n)) % n
+            else:
+                k = -k
+        rules.append((x, y, z, k))
     return rules
 
 
@@ -204,7 +217,7 @@ def few_jobs():
         example = [(0, 0, 1, -size), (3, 3, 2, 0), (1, 2, 3, -1), (1, 0, 3, 25)]
         yield 4, example
         yield 4, example + [(1, 2, 0, size - 1)]
-    yield from (b[:2] for b in ref.EXAMPLES.values())
+    yield from (b[:2] for b in EXAMPLES)
 
 
 def many_jobs():
@@ -213,8 +226,8 @@ def many_jobs():
         yield n, kept_rules(n, count, OFFSET)
         yield n, any_rules(n, count, 60)
     yield 1, [(0, 0, 0, OFFSET)] * 1024
-    yield 1, [(0, 0, 0, -OFFSET)] * 1024
-    yield 256, [(255, 255, 255, -OFFSET)]
+    yield 2, [(0, 0, 1, -OFFSET), (1, 1, 0, -OFFSET)] * 512
+    yield 256, [(255, 255, 254, -OFFSET), (254, 254, 255, -OFFSET)]
     yield 256, []
     yield 2, [(0, 1, 0, 0)] * 1023 + [(0, 0, 1, -OFFSET)]
 
@@ -228,7 +241,7 @@ def with_latest(books):
 
 def small_books():
     yield from with_latest(few_jobs())
-    yield from ref.EXAMPLES.values()
+    yield from EXAMPLES
 
 
 def large_books():
@@ -239,7 +252,7 @@ def spoilt(n, rules):
     """A job count and rules with up to three faults."""
     rules = list(rules)
     for _ in range(rng.randint(1, 3)):
-        kind = rng.randrange(8)
+        kind = rng.randrange(10)
         if kind == 0:
             n = rng.choice((0, 257, n + 2**32, *HUGE))
         elif kind == 1 and len(rules) < 500:
@@ -249,8 +262,10 @@ def spoilt(n, rules):
             rule = list(rules[i])
             if kind < 6:
                 rule[rng.randrange(3)] = rng.choice((min(n, 65535), min(n + 1, 65535), 256, 65535))
-            if kind > 4:
+            if 4 < kind < 8:
                 rule[3] = rng.choice((OFFSET + 1, -OFFSET - 1, 2**31 - 1, -(2**31), 2**16, 2**30))
+            if kind > 7:
+                rule = [rule[0]] * 3 + [rng.choice((-1, -60, -OFFSET, rule[3]))]
             rules[i] = tuple(rule)
     return n, rules
 
@@ -440,7 +455,7 @@ def lists():
                     for times in ([0] * n, [0] * length):
                         every_call(n, rules, (latest + [minute])[:length], times, (0, 0), MOST)
                 # both come after the faults of all rules
-                for rule in ((0, 0, n, 0), (0, 0, 0, OFFSET + 1)):
+                for rule in ((0, 0, n, 0), (0, 0, 0, OFFSET + 1), (0, 0, 0, -1)):
                     every_call(n, [*rules, rule], latest, latest, (0, 0), 0)
                     every_call(n, [*rules, rule], latest[1:], latest, (0, 0), 0)
         # the first of two faults is the place
@@ -450,10 +465,38 @@ def lists():
             every_call(n, rules, latest, latest, (0, 0), 0)
 
 
+def impossible_rules():
+    """Impossible rules and rules that are nearly so, alone and among others, and which of two refusals comes first."""
+    for n in (1, 2, 3, 256):
+        for job in {0, n // 2, n - 1}:
+            others, latest, beside = any_rules(n, 3, OFFSET), any_latest(n), (job + 1) % n
+            for k in (0, 1, -1, -60, -OFFSET, -OFFSET - 1, -(2**31)):
+                rule = job, job, job, k
+                for rules in ([rule], [*others, rule], [others[0], rule, *others[1:]]):
+                    every_call(n, rules, latest, latest, (0, 0), len(rules) - 1)
+                # 10 comes after 6 and 7 of the rule, and before 8 and 21
+                for faulty in (latest[1:], [1] * n, latest + [0]):
+                    every_call(n, [rule], faulty, latest, (0, 0), 0)
+                every_call(n, [rule], latest, any_times(n + 1), (0, 0), 0)
+                every_call(n, [rule], latest, [1] * n, (MOST, 0), MOST)
+                every_call(n, [(n, n, n, k)], latest, latest, (0, 0), 0)
+                # one job of the three is another, where there is one
+                for rule in ((beside, job, job, k), (job, beside, job, k), (job, job, beside, k)):
+                    every_call(n, [rule], latest, latest, (0, 0), 0)
+            # the first rule at fault is the place
+            rule = job, job, job, -1
+            for fault in ((0, 0, n, 0), (0, 0, 0, OFFSET + 1), rule):
+                every_call(n, [others[0], rule, fault], latest, latest, (0, 0), 0)
+                every_call(n, [others[0], fault, rule], latest, latest, (0, 0), 0)
+    # 4 and 5 come before 10
+    for n, count in ((0, 1), (257, 1), (1, 1024), (1, 1025)):
+        every_call(n, [(0, 0, 0, -1)] * count, [0] * n, [0] * n, (0, 0), 0)
+
+
 def slips():
     """Slips and tallies at and past their bounds, and which of two refusals comes first."""
     for n, job, fall in itertools.product((1, 2, 256), (0, -1), (1, 2, 7, OFFSET)):
-        rules = [(0, 0, 0, -OFFSET)] + any_rules(n, 2, OFFSET)
+        rules = [(0, 0, 0, OFFSET)] + any_rules(n, 2, OFFSET)
         latest = any_latest(n)
         job %= n
         last, now = latest[job], latest[job] - fall
@@ -480,7 +523,7 @@ def slips():
     step_back(2, [], [0, -5], [-5, -5], (2, 5), (0, -1, -5))
     step_back(2, [(0, 0, 1, 5)], [0, 0], [0, -4], (4, 4), (1, -3, -4))
     # one job or two stand below the floor, and one goes back
-    rules = [(0, 0, 0, -1), (1, 1, 1, -2)]
+    rules = [(0, 0, 1, -1), (1, 1, 0, -2)]
     for time in range(-6, 0):
         for slip in ((0, 0, time), (0, time + 1, time), (1, 0, -6), (1, -3, -6)):
             step_back(2, rules, [0, 0], [time, -6], (2, 6 - time), slip)
@@ -499,7 +542,7 @@ def long_runs():
     fall a minute a pass down to the latest time of a third."""
     for _ in range(40):
         n, size = rng.choice(((2, 400), (3, 200), (5, 60), (9, 20), (30, 2)))
-        m = rng.randrange(1, n + 1)
+        m = rng.randint(2, n)
         second = [(x + n, y + n, z + n, k) for x, y, z, k in ring(m, size)]
         for jobs, rules in ((n, ring(n, size)), (n, ring(n, size) + any_rules(n, 4, size)), (n + m, ring(n, size) + second)):
             solve(jobs, rules, any_latest(jobs), any_times(jobs))
@@ -585,7 +628,8 @@ def damaged(data):
         elif kind == 5:
             data = data[:4] + ref.latest_record(rng.randrange(4), rng.choice((0, -1, -OFFSET, 1, -OFFSET - 1))) + data[4:]
         else:
-            more = stored_record(0, 0, 0, 60), ref.rule_record(9, 0, 0, -1), ref.latest_record(0, 0)
+            rules = stored_record(0, 0, 0, 60), ref.rule_record(9, 0, 0, -1), stored_record(0, 0, 0, -60)
+            more = *rules, ref.latest_record(0, 0)
             data += rng.choice((b"BK\1\0", b"RU", b"HR", b"CE", b"B", b"RK", *more))
     return data
 
@@ -597,12 +641,19 @@ def limit_files(rule_record):
     head = book_file(256, [])
     for hours in (HOURS, HOURS + 1, -HOURS, -HOURS - 1, 2**15 - 1, -(2**15)):
         yield head + ref.hours_record(0, 0, 0, hours)
-    for k in (OFFSET, OFFSET + 1, -OFFSET, -OFFSET - 1, 2**31 - 1, -(2**31)):
-        yield head + ref.rule_record(0, 0, 0, k)
-    for jobs in ((255, 255, 255), (256, 0, 0), (0, 256, 0), (0, 0, 256), (65535, 0, 0)):
-        for k in (0, 60, OFFSET + 1):
+    for k in (OFFSET, OFFSET + 1, -1, -OFFSET, -OFFSET - 1, 2**31 - 1, -(2**31)):
+        for z in (0, 1):
+            yield head + ref.rule_record(0, 0, z, k)
+    for jobs in ((255, 255, 255), (256, 0, 0), (0, 256, 0), (0, 0, 256), (256, 256, 256), (65535, 0, 0)):
+        for k in (0, 60, -60, OFFSET + 1):
             yield head + rule_record(*jobs, k)
-    rule, time = rule_record(0, 0, 0, 60), ref.latest_record(0, -5)
+    rule, time, impossible = rule_record(0, 0, 0, 60), ref.latest_record(0, -5), rule_record(0, 0, 0, -60)
+    # an impossible rule behind other records and before them, and cut off
+    for first in (b"", rule, time, time + rule * 3):
+        for more in (b"", rule, impossible, time, b"XX", ref.rule_record(0, 0, 256, 0), ref.rule_record(0, 0, 0, OFFSET + 1)):
+            yield head + first + impossible + more
+            yield head + first + more + impossible
+        yield head + first + impossible[:-1]
     for minute in (0, 1, -1, -OFFSET, -OFFSET - 1, 2**31 - 1, -(2**31)):
         for job in (0, 255, 256, 65535):
             yield head + ref.latest_record(job, minute)
@@ -627,8 +678,9 @@ def limit_files(rule_record):
     for book in ((1, [(0, 0, 0, 0)] * RULES), (256, most), (256, most, [-OFFSET] * 256)):
         whole = book_file(*book, rule_record=rule_record)
         yield whole
-        for more in (b"R", b"RU", b"HR", b"CE", b"BK", b"XX", rule, rule * 600, time):
+        for more in (b"R", b"RU", b"HR", b"CE", b"BK", b"XX", rule, rule * 600, time, impossible):
             yield whole + more
+    yield head + rule * (RULES - 1) + impossible
     whole = book_file(256, [], [-1 - job for job in range(256)])
     for more in (b"", b"C", b"CE", time, ref.latest_record(256, 0), rule):
         yield whole + more
@@ -686,6 +738,7 @@ if __name__ == "__main__":
     classes()
     tables()
     lists()
+    impossible_rules()
     slips()
     long_lists()
     long_runs()

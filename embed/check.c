@@ -78,7 +78,7 @@ static size_t align_of(char type) {
     return type == 'b' ? 1 : type == 'a' ? 8 : 4;
 }
 
-// The numbers of refusals are below NUMBERS; of those from 10 to 20 there are none.
+// The numbers of refusals are below NUMBERS; of those from 11 to 20 there are none.
 enum { NUMBERS = 30 };
 
 static unsigned long line_number, made[CALLS], refused[NUMBERS];
@@ -271,7 +271,7 @@ int main(void) {
     printf("; refusals");
     int missing = 0;
     for (int i = 1; i < NUMBERS; i++) {
-        if (9 < i && i < 21)
+        if (10 < i && i < 21)
             continue;
         printf("%s %d: %lu", i > 1 ? "," : "", i, refused[i]);
         missing |= !refused[i];

@@ -22,7 +22,7 @@
  *   State      Nothing is allocated, there is no state between calls, and no file, clock or setting is looked at. Of the C library
  *              memcpy, memset and their like are asked for, and nothing else. Every function is reentrant: threads and signal handlers
  *              may call at once, while none writes what another call has been lent.
- *   Stack      marlinfray_solve takes 121,704 bytes of stack, every other call fewer than 512.
+ *   Stack      marlinfray_solve takes 121,720 bytes of stack, every other call fewer than 512.
  */
 #ifndef MARLINFRAY_H
 #define MARLINFRAY_H
@@ -84,18 +84,19 @@ enum {
 
 /* Numbers of refusals. The number given is the first whose condition holds, in the order that each function names. */
 enum {
-    /* Of a file. The place is the byte where the record begins. Numbers 4 to 8 are said of a file as well. */
+    /* Of a file. The place is the byte where the record begins. Numbers 4 to 8 and 10 are said of a file as well. */
     MARLINFRAY_REFUSED_END = 1,    /* the file ends inside a record, or before the record BK */
     MARLINFRAY_REFUSED_MARK = 2,   /* a record's mark is none of BK, CE and RU; at marlinfray_convert, nor HR */
     MARLINFRAY_REFUSED_HEAD = 3,   /* the first record is not BK, or a later one is, or a CE stands behind a rule */
     MARLINFRAY_REFUSED_SECOND = 9, /* there is a second CE for one job */
 
     /* Of a table. The place is the rule's number, 0 with numbers 4 and 5, and the job's number with 8. */
-    MARLINFRAY_REFUSED_JOBS = 4,   /* the job count is not from 1 to 256 */
-    MARLINFRAY_REFUSED_RULES = 5,  /* there is a rule past the 1,024th */
-    MARLINFRAY_REFUSED_JOB = 6,    /* a rule, or a CE, names a job that the book has not */
-    MARLINFRAY_REFUSED_OFFSET = 7, /* an offset is beyond 20,160 minutes of either sign; at marlinfray_convert, or 336 hours */
-    MARLINFRAY_REFUSED_LATEST = 8, /* a latest time is not from -20,160 to 0 */
+    MARLINFRAY_REFUSED_JOBS = 4,        /* the job count is not from 1 to 256 */
+    MARLINFRAY_REFUSED_RULES = 5,       /* there is a rule past the 1,024th */
+    MARLINFRAY_REFUSED_JOB = 6,         /* a rule, or a CE, names a job that the book has not */
+    MARLINFRAY_REFUSED_OFFSET = 7,      /* an offset is beyond 20,160 minutes of either sign; at marlinfray_convert, or 336 hours */
+    MARLINFRAY_REFUSED_LATEST = 8,      /* a latest time is not from -20,160 to 0 */
+    MARLINFRAY_REFUSED_IMPOSSIBLE = 10, /* a rule is impossible: it is of the class MARLINFRAY_CONTRADICTION */
 
     /* Of what is held. The place is 0. */
     MARLINFRAY_REFUSED_LENGTH = 21,    /* something lent has not the length that is asked for */
@@ -127,7 +128,7 @@ enum {
  * A stored file with an HR is refused with 2: marlinfray_convert comes first.
  * Done: `first` is the job count and `second` the rule count. The table's first entries are the rules (the bytes between z and k
  * may be any), the list's first times are the latest times, 0 for a job without a CE, and what stands behind them is as it was.
- * Refused: 1 to 9, the first record at fault deciding; then 21, where the table has fewer entries than the file has rules, or the
+ * Refused: 1 to 10, the first record at fault deciding; then 21, where the table has fewer entries than the file has rules, or the
  * list fewer times than the book has jobs.
  * A table of MARLINFRAY_MAX_RULES entries and a list of MARLINFRAY_MAX_JOBS times are always long enough.
  */
@@ -137,18 +138,20 @@ void marlinfray_read_book(const uint8_t *file, size_t file_len, marlinfray_rule 
 /*
  * Finds a rule's record in a file.
  * Done, always: `first` is the byte where the record of that rule begins and `second` its length in bytes, mark included, which is 12.
- * Both are 0 where marlinfray_read_book would refuse the file for its bytes (1 to 9), or where it holds no rule of that number.
+ * Both are 0 where marlinfray_read_book would refuse the file for its bytes (1 to 10), or where it holds no rule of that number.
  */
 void marlinfray_record(const uint8_t *file, size_t file_len, size_t number, marlinfray_reply *reply);
 
 /*
- * Converts a stored file, which may have rules in hours, to one that marlinfray_read_book takes. A stored file has the records that
- * are said there, and for a rule also
+ * Converts a stored file, which may have rules in hours, to one that has none. A stored file has the records that are said at
+ * marlinfray_read_book, and for a rule also
  *
  *   "HR", x, y, z (16 bits each), hours (16 bits signed)            10 bytes, a rule whose k is 60 times the hours
  *
  * The records are written from the output's first byte on, in their order: each as it is, but for an HR the RU of its rule. So the
  * converted file has the job count, the latest times and the rules of the stored one, and a file without an HR is converted to itself.
+ * A stored file may have impossible rules. marlinfray_read_book refuses the converted file for the first of them, with 10, and takes
+ * every other converted file.
  * Done: `first` is the number of bytes written, and those behind them are as they were.
  * Refused: 1 to 9, the first record at fault deciding; then 21, where the output is shorter than the converted file.
  * An output of MARLINFRAY_FILE_BYTES is always long enough.
@@ -161,7 +164,7 @@ uint8_t marlinfray_class(uint16_t x, uint16_t y, uint16_t z, int32_t k);
 /*
  * The kept test, on any times. Job j stands at times[j].
  * Satisfied: every rule is kept. Violated: `first` is the number of the first broken rule.
- * Refused: 4, 5, then rule by rule 6 before 7; 8, where latest_len is n; then 21, where latest_len or times_len is not n.
+ * Refused: 4, 5, then rule by rule 6, 7, 10; 8, where latest_len is n; then 21, where latest_len or times_len is not n.
  */
 void marlinfray_first_violated(size_t n, const marlinfray_rule *rules, size_t rules_len, const int32_t *latest, size_t latest_len,
                                const int32_t *times, size_t times_len, marlinfray_reply *reply);
@@ -185,7 +188,7 @@ void marlinfray_initial(size_t n, const int32_t *latest, size_t latest_len, int3
  * The hand step: lowers the third job of a broken rule to the later of the first two, plus k.
  * Done: times[z] is lowered, the tally has one step more, and as many minutes more as the job was lowered by. The reply is the
  * slip: `first` is the job z, `before` its time before the step, and `after` its time now, which is below that.
- * Refused: 4, 5, then rule by rule 6 before 7; 8, where latest_len is n; 21, where latest_len or times_len is not n; 22; 23, where
+ * Refused: 4, 5, then rule by rule 6, 7, 10; 8, where latest_len is n; 21, where latest_len or times_len is not n; 22; 23, where
  * the minutes are not the sum, over the jobs, of latest time minus time, or the steps are more than the minutes; 24; 25; 26.
  * From a fresh board with a tally of 0, 0 no calls on one book, in whatever order, bring about 22 or 23, while nobody else writes
  * either.
@@ -214,7 +217,7 @@ void marlinfray_step_back(size_t n, const marlinfray_rule *rules, size_t rules_l
  * job is as late as any such times have it. None: no times of any sign keep every rule; `first` is the number of steps, and the times
  * are as the last step left them. The rest is that step's slip: `second` is the job that fell, `before` its time before the step, not
  * below the floor, and `after` its time now, below the floor.
- * Refused: 4, 5, then rule by rule 6 before 7; 8, where latest_len is n; then 21, where latest_len or times_len is not n.
+ * Refused: 4, 5, then rule by rule 6, 7, 10; 8, where latest_len is n; then 21, where latest_len or times_len is not n.
  */
 void marlinfray_solve(size_t n, const marlinfray_rule *rules, size_t rules_len, const int32_t *latest, size_t latest_len,
                       int32_t *times, size_t times_len, marlinfray_reply *reply);

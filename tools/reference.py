@@ -225,6 +225,11 @@ def book_number(n, rules, latest):
     return 27 * number + sum(-last * 3**job for job, last in enumerate(latest))
 
 
+def impossible(rules):
+    """Whether a rule is in the impossible class."""
+    return any(class_of(*rule) == IMPOSSIBLE for rule in rules)
+
+
 def drawn(state):
     """Numbers by chance, the same in each run."""
     while True:
@@ -274,8 +279,9 @@ def played(mix, n, rules, latest, plan):
 
 
 def small_books(n, count):
-    """All books of `count` rules with offsets -1 to 1, with latest times -2 to 0 that ascend, by the bench run, by hand steps in each order
-    and by lists of hand steps and steps back. The search is over all times from -6 up to the latest times."""
+    """All books of `count` rules with offsets -1 to 1, with latest times -2 to 0 that ascend: those that every call refuses, and the others
+    by the bench run, by hand steps in each order and by lists of hand steps and steps back. The search is over all times from -6 up to the
+    latest times."""
     rules = list(itertools.product(range(n), range(n), range(n), (-1, 0, 1)))
     times = list(itertools.product(range(-6, 1), repeat=n))
     keeping = {rule: {t for t in times if not broken([rule], t)} for rule in rules}
@@ -284,8 +290,11 @@ def small_books(n, count):
     books = []
     for b in itertools.product(rules, repeat=count):
         books += [(b, latest, searched([under, *(keeping[rule] for rule in b)])) for latest, under in before.items()]
+    out = "JOBS %d RULES %d IMPOSSIBLE BOOKS %d DIFFERING %d\n" % (
+        n, count, sum(impossible(b) for b, _, _ in books), sum(impossible(b) and plan is not None for b, _, plan in books),
+    )
+    books = [item for item in books if not impossible(item[0])]
     nones = sum(plan is None for _, _, plan in books)
-    out = ""
     for name, way in WAYS.items():
         taken = minutes = differing = 0
         for b, latest, plan in books:
@@ -306,15 +315,30 @@ def small_books(n, count):
     return out
 
 
+IDLE, IMPOSSIBLE, ONE_ARMED, TWO_ARMED = range(4)
+
+
+def class_of(x, y, z, k):
+    """The class of a rule, by its number."""
+    if k >= 0 and z in (x, y):
+        return IDLE
+    if k < 0 and x == y == z:
+        return IMPOSSIBLE
+    if (k < 0 and (z == x) != (z == y)) or (x == y and z != x):
+        return ONE_ARMED
+    return TWO_ARMED
+
+
 # The bytes in all of each record, by its mark: in a file that is sent, which the reader takes, and in a stored one, which the converter
 # takes.
 SENT = {b"BK": 4, b"CE": 8, b"RU": 12}
 STORED = {**SENT, b"HR": 10}
 
 
-def scan(data, sizes):
-    """A walk through a file whose records have these marks and sizes: the number and the byte of the first fault, or None; the latest
-    times; and for each rule the byte where its record begins, the record's length and the rule."""
+def scan(data, stored):
+    """A walk through a stored file, or through one that is sent, which has no rule in hours and no impossible one: the number and the byte
+    of the first fault, or None; the latest times; and for each rule the byte where its record begins, the record's length and the rule."""
+    sizes = STORED if stored else SENT
     at, latest, said, found = 0, None, set(), []
     while at < len(data) or latest is None:
         mark = data[at : at + 2]
@@ -350,6 +374,8 @@ def scan(data, sizes):
                 return (6, at), latest, found
             if abs(rule[3]) > MOST_MINUTES:
                 return (7, at), latest, found
+            if not stored and class_of(*rule) == IMPOSSIBLE:
+                return (10, at), latest, found
             found.append((at, size, rule))
         at += size
     return None, latest, found
@@ -368,7 +394,7 @@ def refused(f):
 def read(data, places, latest_places):
     """The reader, lent a table of `places` rules and a list of `latest_places` latest times: its reply, and the rules and the latest
     times, a job each, where the file is not refused."""
-    f, latest, found = scan(data, SENT)
+    f, latest, found = scan(data, False)
     if not f and (places < len(found) or latest_places < len(latest)):
         f = 21, 0
     return (refused(f), [], []) if f else (answered(0, len(latest), len(found)), [rule for _, _, rule in found], latest)
@@ -376,14 +402,14 @@ def read(data, places, latest_places):
 
 def record(data, number):
     """A rule's record: the byte where it begins and its length, both 0 where there is none."""
-    f, _, found = scan(data, SENT)
+    f, _, found = scan(data, False)
     return answered(0, *found[number][:2]) if not f and number < len(found) else answered(0)
 
 
 def convert(data, room):
     """The converter, lent an output of `room` bytes: its reply, whose answer is the length written, and the bytes written from byte 0 of
     the output on, none where the file is refused."""
-    f, _, found = scan(data, STORED)
+    f, _, found = scan(data, True)
     if f:
         return refused(f), b""
     rules = found[0][0] if found else len(data)
@@ -403,6 +429,8 @@ def fault(n, rules, latest, times):
             return 6, i
         if abs(k) > MOST_MINUTES:
             return 7, i
+        if class_of(x, y, z, k) == IMPOSSIBLE:
+            return 10, i
     if len(latest) != n:
         return 21, 0
     for job, minute in enumerate(latest):
@@ -514,17 +542,6 @@ def write_plan(times, out, at):
 CLASSES = " IDLE", " IMPOSSIBLE", " ONE-ARMED", " TWO-ARMED"
 
 
-def class_of(x, y, z, k):
-    """The class of a rule, by its number."""
-    if k >= 0 and z in (x, y):
-        return 0
-    if k < 0 and x == y == z:
-        return 1
-    if (k < 0 and (z == x) != (z == y)) or (x == y and z != x):
-        return 2
-    return 3
-
-
 def words(reply, *answers):
     """A reply as the programs write it, by the words for an answer and those for a broken rule or none."""
     return " REFUSED {} {}".format(*reply[1:]) if reply[0] == 2 else answers[reply[0]].format(*reply[1:])
@@ -574,6 +591,14 @@ def latest_word(latest):
     return minutes_word("LATEST", latest)
 
 
+def table_word(rules):
+    return " TABLE" + "".join(" %d %d %d %d" % rule for rule in rules)
+
+
+def classes_word(rules):
+    return "".join(CLASSES[class_of(*rule)] for rule in rules)
+
+
 def tally_word(tally):
     return " TALLY %d %d" % tally
 
@@ -587,7 +612,7 @@ def bench_line(n, rules, latest):
     """The latest times, the classes, the bench run, and the kept and the tight test on what it leaves; for none, its last step is then
     taken back."""
     reply, times = solved(n, rules, latest, [7] * n)
-    out = " BOOK %d %d" % (n, len(rules)) + latest_word(latest) + "".join(CLASSES[class_of(*r)] for r in rules)
+    out = " BOOK %d %d" % (n, len(rules)) + latest_word(latest) + classes_word(rules)
     out += solved_word(reply) + times_word(times) + kept_word(kept(n, rules, latest, times))
     out += "".join(tight_word(tight(n, rules, latest, times, i)) for i in range(len(rules)))
     if reply[0] == 0:
@@ -617,8 +642,15 @@ def reading_line(data, places, latest_places):
     reply, rules, latest = read(data, places, latest_places)
     rules = rules + [(7, 7, 7, 7)] * (places - len(rules))
     latest = latest + [7] * (latest_places - len(latest))
-    table = " TABLE" + "".join(" %d %d %d %d" % rule for rule in rules)
-    return " PLACES %d %d" % (places, latest_places) + read_word(reply) + table + latest_word(latest)
+    return " PLACES %d %d" % (places, latest_places) + read_word(reply) + table_word(rules) + latest_word(latest)
+
+
+def example_lines(data):
+    """An example: what the reader refuses, or a line with the bench run and one with hand steps."""
+    reply, rules, latest = read(data, MOST_RULES + 1, MOST_JOBS + 1)
+    if reply[0] == 2:
+        return [read_word(reply)]
+    return [bench_line(reply[1], rules, latest), hand_line(reply[1], rules, latest)]
 
 
 def each_call(n, rules, latest, length):
@@ -640,10 +672,10 @@ def limit_line(n, rule, count, minute, length):
     return "LIMIT %d %d %d %d %d %d %d %d" % ((n,) + rule + (count, minute, length)) + out
 
 
-def list_line(n, rule, latest, length):
-    """The calls on one rule with a list of latest times, and with buffers of a length."""
-    out, times, board = each_call(n, [rule], latest, length)
-    out = "LIST %d %d %d %d %d %d" % ((n,) + rule + (length,)) + latest_word(latest) + out
+def list_line(n, rules, latest, length):
+    """The calls on a table with a list of latest times, and with buffers of a length."""
+    out, times, board = each_call(n, rules, latest, length)
+    out = "LIST %d %d" % (n, length) + latest_word(latest) + table_word(rules) + classes_word(rules) + out
     return out + times_word(times) + minutes_word("BOARD", board)
 
 
@@ -655,11 +687,11 @@ def most_line():
     return "MOST" + read_word(reply) + latest_word(latest + [7]) + out
 
 
-def held_line(latest, times, tally, number):
-    """A hand step on example D's rule."""
-    reply, after, tally_after = step(len(times), [(0, 0, 0, -1)], latest, times, tally, number)
-    out = "HELD" + latest_word(latest) + times_word(times) + tally_word(tally) + " %d" % number + step_word(reply)
-    return out + times_word(after) + tally_word(tally_after)
+def held_line(rule, latest, times, tally, number):
+    """A hand step on a rule, or on no rule, from any board and tally."""
+    reply, after, tally_after = step(len(times), [rule], latest, times, tally, number)
+    out = "HELD %d %d %d %d" % rule + latest_word(latest) + times_word(times) + tally_word(tally) + " %d" % number
+    return out + step_word(reply) + times_word(after) + tally_word(tally_after)
 
 
 def back_line(rules, latest, times, tally, slip):
@@ -684,11 +716,40 @@ def latest_limits():
     yield "before the head", latest_record(1, -1) + book(2, [])
 
 
+def impossible_files():
+    """Files with rules in the impossible class, or next to it, each under its name."""
+    first, last, down = (0, 0, 0, -1), (1, 1, 1, -1), (0, 0, 1, -1)
+    yield "offset -1", book(1, [first])
+    yield "offset -20160", book(1, [(0, 0, 0, -20160)])
+    yield "offset -20161", book(1, [(0, 0, 0, -20161)])
+    yield "offset 0", book(1, [(0, 0, 0, 0)])
+    yield "offset 1", book(1, [(0, 0, 0, 1)])
+    yield "x and z one job", book(2, [(0, 1, 0, -1)])
+    yield "y and z one job", book(2, [(1, 0, 0, -1)])
+    yield "x and y one job", book(2, [down])
+    yield "job 1 of 2", book(2, [last])
+    yield "job 1 of 1", book(1, [last])
+    yield "the second rule", book(2, [down, last])
+    yield "both rules", book(2, [last, first])
+    yield "behind a latest time", book(2, [first], [0, -60])
+    yield "before a latest time", book(1, [first]) + latest_record(0, -60)
+    yield "before a job of n", book(1, [first, down])
+    yield "behind a job of n", book(1, [down, first])
+    yield "before an offset past the bound", book(2, [first, (0, 0, 1, -20161)])
+    yield "behind an offset past the bound", book(2, [(0, 0, 1, -20161), first])
+    yield "before an unknown mark", book(1, [first]) + b"XX"
+    yield "cut off", book(1, [first])[:-1]
+
+
 EARLIEST = book(2, [], [0, -20160])
 
 
 # A stored book: a latest time, and three rules, of which the first and the last are in hours.
 IN_HOURS = book(2, [], [0, -60]) + hours_record(0, 0, 1, -1) + rule_record(0, 1, 0, -1) + hours_record(1, 1, 0, 2)
+
+
+# A stored book of two rules in hours, of which the second is impossible.
+IMPOSSIBLE_HOURS = book(2, []) + hours_record(0, 0, 1, -1) + hours_record(1, 1, 1, -1)
 
 
 # Boards of two jobs and tallies, and slips for steps back. The rule puts job 1 three minutes before job 0, and the latest times are 0
@@ -737,12 +798,14 @@ def calls():
     """The examples and the limits through the planner's public calls, a line a case."""
     l = 2, [(0, 1, 0, -1), (0, 0, 1, -3)], [0, 0]
     books = [*EXAMPLES.items(), ("L", l)]
-    lines = [k + line(*v) for k, v in sorted(books) for line in (bench_line, hand_line)]
+    lines = [name + line for name, b in sorted(books) for line in example_lines(book(*b))]
     reply, times, tally = step(*l, [0, -3], (1, 3), 0)
     lines.append("L" + step_word(reply) + times_word(times) + tally_word(tally) + kept_word(kept(*l, times)))
     lines += ["B" + reading_line(book(*EXAMPLES["B"]), *c) for c in ((3, 4), (4, 3), (4, 4), (5, 5))]
     lines += ["P" + reading_line(book(*EXAMPLES["P"]), *c) for c in ((0, 2), (1, 1), (1, 2), (2, 3))]
     lines += [name + reading_line(data, 1, 3) for name, data in latest_limits()]
+    lines += [name + reading_line(data, 3, 3) for name, data in impossible_files()]
+    lines.append("D" + reading_line(book(*EXAMPLES["D"]), 0, 0))
     lines += ["cut off at %d" % length + reading_line(EARLIEST[:length], 1, 3) for length in range(len(EARLIEST) + 1)]
     lines.append(most_line())
     idle, down = (0, 0, 0, 0), (0, 0, 1, -1)
@@ -752,16 +815,38 @@ def calls():
     lines += [limit_line(2, (0, 0, 1, k), 1, 0, 2) for k in (20160, 20161, -20160, -20161)]
     lines += [limit_line(256, (0, 0, z, -1), 1, 0, 256) for z in (255, 256)]
     lines += [limit_line(256, (0, 0, 255, -20160), 1024, minute, 256) for minute in (-20160, -20161, 0, 1)]
-    lines += [list_line(2, down, latest, length) for length in (1, 2, 3) for latest in ([0, 0], [0, 1])]
-    lines += [list_line(2, down, latest, 2) for latest in ([0], [0, 0, 0], [1], [1, 1, 1], [-5, -3])]
-    lines += [list_line(2, down, latest, 2) for latest in ([0, -20160], [0, -20161], [-20161, 1], [-20160, 0])]
-    lines += [list_line(2, (0, 0, 1, -20161), latest, 2) for latest in ([0, 1], [1])]
-    lines += [list_line(2, (0, 0, 2, -1), [1, 1], 2), list_line(0, down, [1], 2), list_line(257, down, [1, 1], 2)]
-    for c in ((1, (0, 0), 0), (-3, (3, 3), 0), (-1, (0, 0), 0), (-1, (2, 1), 0), (-1, (1, 1), 1), (-2, (2, 2), 0), (-1, (1, 1), 0)):
-        lines.append(held_line([0], [c[0]], *c[1:]))
-    for c in ((-4, (0, 0), 0), (-8, (3, 3), 0), (-6, (1, 0), 0), (-6, (1, 6), 0), (-6, (1, 1), 1), (-7, (2, 2), 0), (-6, (1, 1), 0)):
-        lines.append(held_line([-5], [c[0]], *c[1:]))
-    lines += [held_line([0, -5], list(times), (0, -times[0]), 0) for times in ((0, -4), (0, -5), (-6, -5), (-7, -5), (-8, -5))]
+    lines += [list_line(2, [down], latest, length) for length in (1, 2, 3) for latest in ([0, 0], [0, 1])]
+    lines += [list_line(2, [down], latest, 2) for latest in ([0], [0, 0, 0], [1], [1, 1, 1], [-5, -3])]
+    lines += [list_line(2, [down], latest, 2) for latest in ([0, -20160], [0, -20161], [-20161, 1], [-20160, 0])]
+    lines += [list_line(2, [(0, 0, 1, -20161)], latest, 2) for latest in ([0, 1], [1])]
+    lines += [list_line(2, [(0, 0, 2, -1)], [1, 1], 2), list_line(0, [down], [1], 2), list_line(257, [down], [1, 1], 2)]
+    before = 0, 0, 0, -1
+    # Impossible rules and their neighbours, on one job and on two; then 10 before what is wrong with the list and the buffers, and behind
+    # the counts.
+    lines += [list_line(1, [(0, 0, 0, k)], [0], 1) for k in (-1, -20160, -20161, 0, 1)]
+    lines += [list_line(n, [(1, 1, 1, -1)], [0] * n, n) for n in (1, 2)]
+    lines += [list_line(2, [rule], [0, 0], 2) for rule in ((0, 1, 0, -1), (1, 0, 0, -1))]
+    for rule in (down, (1, 1, 1, -2), (0, 0, 2, -1), (0, 0, 1, -20161)):
+        lines += [list_line(2, rules, [0, 0], 2) for rules in ([before, rule], [rule, before])]
+    lines += [list_line(1, [before], latest, 1) for latest in ([1], [], [0, 0])]
+    lines += [list_line(1, [before], [0], length) for length in (0, 2)]
+    lines += [list_line(n, [before], [0], 1) for n in (0, 257)]
+    lines += [limit_line(1, before, count, 0, 1) for count in (1024, 1025)]
+    # 10 before 22 to 25.
+    for time, *c in ((1, (0, 0), 0), (-1, (0, 0), 0), (-1, (1, 1), 1), (-2, (2, 2), 0)):
+        lines.append(held_line(before, [0], [time], *c))
+    # 22, 23, 24, 25 and 26, and steps; the rule puts job 0 a minute before job 1.
+    held = 1, 1, 0, -1
+    for times, *c in (
+        ([1, 0], (0, 0), 0), ([0, 1], (0, 0), 0), ([-3, 0], (3, 3), 0), ([-1, 0], (0, 0), 0), ([-1, 0], (2, 1), 0), ([-1, 0], (1, 1), 1),
+        ([-2, 0], (2, 2), 0), ([-1, 0], (1, 1), 0), ([0, 0], (0, 0), 0), ([-1, -1], (1, 2), 0)):
+        lines.append(held_line(held, [0, 0], times, *c))
+    for times, *c in (
+        ([-4, -5], (0, 0), 0), ([-8, -5], (3, 3), 0), ([-6, -5], (1, 0), 0), ([-6, -5], (1, 11), 0), ([-6, -5], (1, 1), 1),
+        ([-7, -5], (2, 2), 0), ([-6, -5], (1, 1), 0), ([-6, -6], (1, 2), 0)):
+        lines.append(held_line(held, [-5, -5], times, *c))
+    for times, minutes in (([0, -4], 0), ([0, -5], 0), ([-6, -5], 6), ([-6, -6], 7), ([-7, -5], 7), ([-8, -5], 8)):
+        lines.append(held_line(held, [0, -5], times, (0, minutes), 0))
     lines += [back_line([(0, 0, 1, -3)], [0, -2], *c) for c in BACKS]
     lines.append(back_line([], [0, -2], [-2, -2], (2, 2), (0, -1, -2)))
     return "\n".join(lines) + "\n"
@@ -778,6 +863,8 @@ def limits():
         reply, out = convert(data, room)
         return "convert %s into %d bytes:" % (name, room) + converted_word(reply) + minutes_word("OUT", out + b"\7" * (room - len(out)))
 
+    stored_books = ("hours and minutes", IN_HOURS), ("hours of an impossible rule", IMPOSSIBLE_HOURS)
+
     def in_hours(n, z, hours):
         return book(n, []) + hours_record(0, 0, z, hours)
 
@@ -788,10 +875,12 @@ def limits():
     for times, count in ((0, 1024), (0, 1025), (256, 1024), (256, 1025), (257, 0)):
         data = book(256, []) + b"".join(latest_record(i % 256, -20160) for i in range(times)) + rule_record(0, 0, 0, 0) * count
         lines.append("latest times %d, rules %d:" % (times, count) + reads(data))
-    lines += ["offset bits %d:" % (k % 2**32) + reads(book(1, [(0, 0, 0, k)])) for k in (20160, 20161, -20160, -20161)]
+    lines += ["offset bits %d:" % (k % 2**32) + reads(book(2, [(0, 0, 1, k)])) for k in (20160, 20161, -20160, -20161)]
     lines += ["a record in hours:" + reads(in_hours(1, 0, 0)), "hours first:" + reads(hours_record(0, 0, 0, 0))]
     lines += ["job of 256, %d:" % z + reads(book(256, [(0, 0, z, 0)])) for z in (255, 256)]
     lines += ["latest times, %s:" % name + reads(data) for name, data in latest_limits()]
+    lines += ["impossible, %s:" % name + reads(data) for name, data in impossible_files()]
+    lines += ["impossible, behind %d rules:" % c + reads(book(1, [(0, 0, 0, 0)] * c + [(0, 0, 0, -1)])) for c in (1023, 1024)]
     lines += ["cut off at %d:" % length + reads(EARLIEST[:length]) for length in range(len(EARLIEST) + 1)]
     lines += ["42 4B 01 00 52:" + reads(b"\x42\x4b\x01\0\x52"), "no byte:" + reads(b"")]
     for h, room in ((336, 16), (337, 16), (-336, 16), (-337, 16), (336, 0), (336, 15), (336, 20), (337, 15)):
@@ -803,6 +892,8 @@ def limits():
         lines.append("convert latest times 256, rules %d into %d bytes:" % (count, room) + converted_word(convert(data, room)[0]))
     lines += [converts("hours and minutes", IN_HOURS, room) for room in (47, 48, 49)]
     lines += [converts("latest times, " + name, data, 28) for name, data in latest_limits()]
+    lines += [converts("impossible, " + name, data, 28) for name, data in impossible_files()]
+    lines += ["converted, %s:" % name + reads(convert(data, 48)[1]) for name, data in stored_books]
     lines += [converts("cut off at %d" % length, in_hours(2, 1, -1)[:length], 16) for length in range(15)]
     plans = (0, 0), (1, 0), (256, 0), (256, 1), (257, 0), (1, 2040), (1, 2041), (1, 2049), (1, 2**64 - 1)
     lines += ["times %d at %d:" % c + writes(*c) for c in plans]
@@ -885,7 +976,7 @@ def stored(name):
 
 def board_sessions():
     """The sessions of `board_sessions`: each example's, under the name of the file of its lines, one on lines that are no commands, and
-    two on files that are refused, of which one has a rule in hours."""
+    two on other files that are refused, of which one has a rule in hours."""
     books = dict(EXAMPLES, L=(2, [(0, 1, 0, -1), (0, 0, 1, -3)], [0, 0]))
     files = [(letter.lower(), book(*books[letter])) for letter in "ABCDEFGHIJLPQ"]
     files += [("hours", book(2, []) + hours_record(0, 0, 1, -1)), ("what", book(*books["B"])), ("refused", b"BK\1\0RU")]

@@ -1,6 +1,7 @@
 // Sessions at the boards of the example books. The file of a session's lines has the book's letter; `what` has lines that are no commands,
-// and commands with the greatest numbers, an empty line and a last line without a line feed. `hours` and `refused` are sessions on files
-// that are refused: one has a rule in hours, whose mark the reader does not know, and one ends inside a record.
+// and commands with the greatest numbers, an empty line and a last line without a line feed. `d`, `hours` and `refused` are sessions on
+// files that are refused: one has an impossible rule, one a rule in hours, whose mark the reader does not know, and one ends inside a
+// record.
 
 #![tactic(auto)]
 

@@ -17,7 +17,7 @@ use Rattle.derivation.specs.Refusals.{Reply, refused, answer, verdict}
 use Rattle.bookfile.specs.declared.mark.Form.{Form}
 use Rattle.bookfile.specs.declared.reading.LatestTime.{LatestTime}
 use Rattle.bookfile.specs.Numbers.{word, long, signed16, signed32}
-use Rattle.bookfile.specs.Kinds.{Kind, jobs_at, decoded_latest, HR, rule_with, kind_at, size_at, decoded_rule, among}
+use Rattle.bookfile.specs.Kinds.{Kind, class_checks, jobs_at, decoded_latest, HR, rule_with, kind_at, size_at, decoded_rule, among}
 use Rattle.bookfile.specs.Reading.{head_checks, latest_here, latest_record_checks, latest_record_reply, record_checks, rule_reply, before, latest_from, rules_from, read, end_of, reading, latest_records, rules_begin, book_reply, latest_of_file}
 use Rattle.bookfile.specs.Replies.{file_reply}
 use Rattle.bookfile.specs.Theorems.{FirstBytes}
@@ -107,8 +107,8 @@ module _ (n : ℕ) (file : List ℕ) where
     unfolding rule_reply record_checks
     reply_same form jobs count =
         rw (
-          own_checks cut at jobs,
-          own_checks file at jobs,
+          own_checks cut at jobs (class_checks form (decoded_rule cut at) at),
+          own_checks file at jobs (class_checks form (decoded_rule file at) at),
           length_lt (at + 2) (omega arith),
           word_same at (omega arith),
           size_same,

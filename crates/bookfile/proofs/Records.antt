@@ -2,7 +2,7 @@
 use mathlib.Core.Path.{◌≡◌, refl, sym, ap, ◌∙◌}
 use mathlib.Core.Logic.{◌⊎◌, ⊎_elim}
 use mathlib.Core.Bool.{Bool, true, false, cond, not}
-use mathlib.Core.List.{List, [], ◌∷◌}
+use mathlib.Core.List.{List, [], ◌∷◌, ◌++◌}
 use Prim.Native.Nat.{ℕ, ◌+◌, ◌<◌, ◌≤◌}
 use native.Mathlib.Omega.{arith}
 use borrow.Author.Tests.{eq-eqb, ne_eqb, lt-ltb, le-ltb, le-leb, lt-leb}
@@ -15,11 +15,13 @@ use Rattle.maxatom.specs.declared.Rule.{Rule}
 use Rattle.maxatom.proofs.Choose.{cond_yes, cond_no, clash}
 use Rattle.derivation.specs.Refusals.{Reply, refused, answer, Check, check, reply, jobs_check, job_outside, offset_outside}
 use Rattle.derivation.proofs.Checks.{says, skips, accepting}
-use Rattle.table.specs.Faults.{rule_fault}
+use Rattle.maxatom.specs.Class.{contradiction}
+use Rattle.table.specs.Faults.{bounds_then}
 use Rattle.derivation.specs.Faults.{number_of}
 use Rattle.derivation.specs.declared.Fault.{Fault}
-use Rattle.derivation.specs.declared.Fault.TheVariants.{JobNumber, Offset}
+use Rattle.derivation.specs.declared.Fault.TheVariants.{JobNumber, Offset, ImpossibleRule}
 use Rattle.bookfile.specs.declared.mark.Form.{Form}
+use Rattle.bookfile.specs.declared.mark.Form.TheVariants.{Sent, Stored}
 use Rattle.bookfile.specs.declared.mark.Mark.{Mark}
 use Rattle.bookfile.specs.declared.mark.Mark.TheVariants.{Book}
 use denote.Enum.Bare.{sameb}
@@ -27,10 +29,10 @@ use Rattle.bookfile.specs.contracts.mark.Mark.{the_type}
 use Rattle.bookfile.specs.Marks.{mark_in, is_rule}
 use Rattle.bookfile.proofs.Marks.{unknown, known, of_rule, of_book, said_of}
 use Rattle.bookfile.specs.Numbers.{word, long, signed16, signed32}
-use Rattle.bookfile.specs.Kinds.{kind_among, kind_checks, cut, Kind, BK, jobs_at, rule_with, minutes_at, minutes_rule, RU, hours_at, hours_rule, HR, rule_marks, marks, among, kind_at, size_at, decoded_rule}
+use Rattle.bookfile.specs.Kinds.{kind_among, kind_checks, class_checks, cut, Kind, BK, jobs_at, rule_with, minutes_at, minutes_rule, RU, hours_at, hours_rule, HR, rule_marks, marks, among, kind_at, size_at, decoded_rule}
 use Rattle.derivation.specs.Refusals.{beyond}
 use Rattle.bookfile.specs.Reading.{record_checks, rule_reply, head_checks}
-use Rattle.bookfile.specs.Inner.{said_at, head_reply}
+use Rattle.bookfile.specs.Inner.{fields_fault, said_at, head_reply}
 use Rattle.bookfile.proofs.Words.{sixty_beyond}
 
 -- the size of a rule's record, what it says, and the checks of that, by its mark
@@ -78,18 +80,18 @@ module _ (file : List ℕ) (at : ℕ) where
   rule_fields p q r e = rw (p, q, r) e
 
   -- the checks of the two kinds: hours are outside their bounds where the offset is
-  pub own_checks : (jobs : ℕ) →
-      kind_checks (kind_at file at) jobs file at
-      ≡ cut (size_at file at) file at ∷ check (job_outside jobs (decoded_rule file at)) 6 at ∷ check (offset_outside (decoded_rule file at)) 7 at ∷ []
+  pub own_checks : (jobs : ℕ) (more : List Check) →
+      kind_checks (kind_at file at) jobs file at ++ more
+      ≡ cut (size_at file at) file at ∷ check (job_outside jobs (decoded_rule file at)) 6 at ∷ check (offset_outside (decoded_rule file at)) 7 at ∷ more
   unfolding kind_at kind_among size_at decoded_rule hours_rule minutes_rule rule_with beyond
-  own_checks jobs = go (eqb (word file at) HR.mark)
+  own_checks jobs more = go (eqb (word file at) HR.mark)
     where
       go : (t : Bool) →
-          kind_checks (cond t HR RU) jobs file at
+          kind_checks (cond t HR RU) jobs file at ++ more
           ≡ cut (cond t HR RU).size file at ∷ check (job_outside jobs ((cond t HR RU).says file at)) 6 at
-          ∷ check (beyond most_minutes ((cond t HR RU).says file at).k) 7 at ∷ []
+          ∷ check (beyond most_minutes ((cond t HR RU).says file at).k) 7 at ∷ more
       go true =
-          ap (λ (b : Bool). cut 10 file at ∷ check (job_outside jobs (hours_rule file at)) 6 at ∷ check b 7 at ∷ [])
+          ap (λ (b : Bool). cut 10 file at ∷ check (job_outside jobs (hours_rule file at)) 6 at ∷ check b 7 at ∷ more)
           (sixty_beyond (hours_at file at))
       go false = refl
 
@@ -107,13 +109,13 @@ module _ (form : Form) (jobs : ℕ) (file : List ℕ) (count at : ℕ) where
   rule = decoded_rule file at
 
   abbrev fields : List Check
-  fields = check (job_outside jobs rule) 6 at ∷ check (offset_outside rule) 7 at ∷ []
+  fields = check (job_outside jobs rule) 6 at ∷ check (offset_outside rule) 7 at ∷ class_checks form rule at
 
   abbrev whole : List Check
   whole = cut (size_at file at) file at ∷ fields
 
   abbrev own : List Check
-  own = kind_checks (kind_at file at) jobs file at
+  own = kind_checks (kind_at file at) jobs file at ++ class_checks form rule at
 
   abbrev full : List Check
   full = check (leb most_rules count) 5 at ∷ own
@@ -156,7 +158,7 @@ module _ (form : Form) (jobs : ℕ) (file : List ℕ) (count at : ℕ) where
         counts : said ≡ reply whole rule
         counts =
             ruled ∙ skips rule (check (leb most_rules count) 5 at) own (lt-leb most_rules count room)
-            ∙ ap (λ (l : List Check). reply l rule) (own_checks file at jobs)
+            ∙ ap (λ (l : List Check). reply l rule) (own_checks file at jobs (class_checks form rule at))
 
         pub cut_said : length file < at + size_at file at → said ≡ refused 1 at
         cut_said l = counts ∙ says rule _ _ (lt-ltb _ _ l)
@@ -165,21 +167,31 @@ module _ (form : Form) (jobs : ℕ) (file : List ℕ) (count at : ℕ) where
           fields_last : said ≡ reply fields rule
           fields_last = counts ∙ skips rule (check (ltb (length file) (at + size_at file at)) 1 at) fields (le-ltb _ _ l)
 
-          by_fields : (r : Result ⊤ Fault) → rule_fault jobs rule ≡ r → reply fields rule ≡ said_at at (after_check r rule)
-          unfolding reply rule_fault
-          by_fields r e = rw (← e) (go (job_outside jobs rule) (offset_outside rule))
+          by_fields : (r : Result ⊤ Fault) → fields_fault form jobs rule ≡ r → reply fields rule ≡ said_at at (after_check r rule)
+          unfolding reply bounds_then
+          by_fields r e = rw (← e) (go form)
             where
-              go : (p q : Bool) →
-                  cond p (refused 6 at) (cond q (refused 7 at) (answer rule))
-                  ≡ said_at at (after_check (cond p (Err JobNumber) (cond q (Err Offset) (Ok tt))) rule)
-              go true q = refl
-              go false true = refl
-              go false false = refl
+              six_seven : (p q : Bool) (more : Reply Rule) (fault : Result ⊤ Fault) → more ≡ said_at at (after_check fault rule) →
+                  cond p (refused 6 at) (cond q (refused 7 at) more)
+                  ≡ said_at at (after_check (cond p (Err JobNumber) (cond q (Err Offset) fault)) rule)
+              six_seven true q more fault h = refl
+              six_seven false true more fault h = refl
+              six_seven false false more fault h = h
 
-          pub fault_said : {fault : Fault} → rule_fault jobs rule ≡ Err fault → said ≡ refused (number_of fault) at
+              ten : (t : Bool) → cond t (refused 10 at) (answer rule) ≡ said_at at (after_check (cond t (Err ImpossibleRule) (Ok tt)) rule)
+              ten true = refl
+              ten false = refl
+
+              go : (f : Form) →
+                  reply (check (job_outside jobs rule) 6 at ∷ check (offset_outside rule) 7 at ∷ class_checks f rule at) rule
+                  ≡ said_at at (after_check (fields_fault f jobs rule) rule)
+              go Stored = six_seven (job_outside jobs rule) (offset_outside rule) _ _ refl
+              go Sent = six_seven (job_outside jobs rule) (offset_outside rule) _ _ (ten (contradiction rule))
+
+          pub fault_said : {fault : Fault} → fields_fault form jobs rule ≡ Err fault → said ≡ refused (number_of fault) at
           fault_said {fault} e = fields_last ∙ by_fields (Err fault) e
 
-          pub taken : rule_fault jobs rule ≡ Ok tt → said ≡ answer rule
+          pub taken : fields_fault form jobs rule ≡ Ok tt → said ≡ answer rule
           taken e = fields_last ∙ by_fields (Ok tt) e
 
 -- the reply on the first record, check by check

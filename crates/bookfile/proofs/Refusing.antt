@@ -1,7 +1,7 @@
 -- Demand 1 for files: reading record by record says what one list of checks says. Assumes nothing.
 use mathlib.Core.Path.{◌≡◌, refl, sym, ap, subst, ◌∙◌}
 use mathlib.Core.Bool.{Bool, true, false, cond}
-use mathlib.Core.List.{List, [], ◌∷◌, ◌++◌}
+use mathlib.Core.List.{List, [], ◌∷◌, ◌++◌, append-nil}
 use Prim.Native.Nat.{ℕ, zero, suc, ◌+◌, ◌<◌, ◌≤◌}
 use native.Mathlib.Omega.{arith}
 use lib.Dec.{leb}
@@ -18,14 +18,14 @@ use Rattle.maxatom.proofs.Lists.{each_join}
 use Rattle.derivation.proofs.Checks.{answer_not}
 use Rattle.derivation.proofs.Refusing.{refuses, refusing}
 use Rattle.bookfile.specs.declared.mark.Form.{Form}
-use Rattle.bookfile.specs.declared.mark.Form.TheVariants.{Sent}
+use Rattle.bookfile.specs.declared.mark.Form.TheVariants.{Sent, Stored}
 use Rattle.bookfile.specs.declared.reading.LatestTime.{LatestTime}
 use Rattle.bookfile.specs.Numbers.{word}
-use Rattle.bookfile.specs.Kinds.{kind_checks, CE, decoded_latest, among, kind_at, size_at, decoded_rule}
+use Rattle.bookfile.specs.Kinds.{kind_checks, class_checks, CE, decoded_latest, among, kind_at, size_at, decoded_rule}
 use Rattle.bookfile.specs.Reading.{head_checks, latest_here, latest_record_checks, latest_record_reply, record_checks, rule_reply, entry, Placed, before, latest_from, rules_from, after, read, end_of, reading, latest_records, rules_begin, rules_of, book_reply, stretch}
 use Rattle.bookfile.specs.Replies.{counted, room_checks, roomed, file_reply, read_reply, read_rules, read_latest}
 use Rattle.bookfile.specs.Writing.{plan_checks, plan_out}
-use Rattle.bookfile.specs.Theorems.{latest_checks_from, checks_from, file_checks, reader_checks, times_at, stretches, ToTheEnd, FileDemand1}
+use Rattle.bookfile.specs.Theorems.{latest_checks_from, checks_from, file_checks, reader_checks, times_at, stretches, ToTheEnd, file_numbers, FileDemand1}
 use Rattle.bookfile.proofs.Records.{own_checks}
 use Rattle.bookfile.proofs.Latest.{latest_is, latest_in_book, latest_first, left, left_all, left_less}
 use Rattle.bookfile.proofs.Rules.{looks, not_full}
@@ -44,17 +44,27 @@ after_append a (c ∷ checks) more = go c.fails (after_append a checks more)
     go true h = refl
     go false h = h
 
--- what comes after a reply does not depend on its answer
-pub after_any : {A B : Type 0} (a : A) (checks : List Check) (second : Reply B) → after (reply checks a) second ≡ after (verdict checks) second
+-- a function of replies that hands refusals on does so behind any checks
+pub through : {A B : Type 0} (f : Reply A → Reply B) → ((number place : ℕ) → f (refused number place) ≡ refused number place) →
+    (checks : List Check) (a : A) → f (reply checks a) ≡ after (verdict checks) (f (answer a))
 unfolding reply after
-after_any a [] second = refl
-after_any a (c ∷ checks) second = go c.fails (after_any a checks second)
+through f h [] a = refl
+through f h (c ∷ checks) a = go c.fails (through f h checks a)
   where
-    go : (t : Bool) → after (reply checks a) second ≡ after (verdict checks) second →
-        after (cond t (refused c.number c.place) (reply checks a)) second
-        ≡ after (cond t (refused c.number c.place) (verdict checks)) second
-    go true h = refl
-    go false h = h
+    go : (t : Bool) → f (reply checks a) ≡ after (verdict checks) (f (answer a)) →
+        f (cond t (refused c.number c.place) (reply checks a)) ≡ after (cond t (refused c.number c.place) (verdict checks)) (f (answer a))
+    go true e = h c.number c.place
+    go false e = e
+
+pub mapped : {A B : Type 0} (f : Reply A → Reply B) → ((number place : ℕ) → f (refused number place) ≡ refused number place) →
+    (checks : List Check) (a : A) (b : B) → f (answer a) ≡ answer b → f (reply checks a) ≡ reply checks b
+mapped f h checks a b e = through f h checks a ∙ ap (after (verdict checks)) e ∙ sym (through (λ s. s) (λ n p. refl) checks b)
+
+-- what comes after a reply does not depend on its answer
+pub after_any : {A B : Type 0} (a : A) (checks : List Check) (second : Reply B) →
+    after (reply checks a) second ≡ after (verdict checks) second
+unfolding after
+after_any a checks second = through (λ s. after s second) (λ n p. refl) checks a
 
 after_before : {A B C : Type 0} (kept : B → C) (said : Reply B) (rest : Reply (List C)) (second : Reply A) →
     after (before kept said rest) second ≡ after said (after rest second)
@@ -304,10 +314,15 @@ to_the_end form file =
           same_from form (most_rules + 1 + others) looks jobs file 0 (rules_begin file) (omega arith) (omega arith) (omega arith),
         )
 
+class_own : (form : Form) (more : List ℕ) (r : Rule) (at : ℕ) →
+    Each (λ (c : Check). Contains (file_numbers form ++ more) c.number) (class_checks form r at)
+class_own Sent more r at = ((9, omega arith, refl), tt)
+class_own Stored more r at = tt
+
 -- the numbers of a file's checks, and others behind them
-module _ (more : List ℕ) where
+module _ (form : Form) (more : List ℕ) where
   abbrev numbers : List ℕ
-  numbers = 1 ∷ 2 ∷ 3 ∷ 4 ∷ 5 ∷ 6 ∷ 7 ∷ 8 ∷ 9 ∷ more
+  numbers = file_numbers form ++ more
 
   abbrev Own : Check → Type 0
   Own c = Contains numbers c.number
@@ -343,22 +358,26 @@ module _ (more : List ℕ) where
       go false h = tt
       go true h = (one, (six, ((7, omega arith, refl), (nine, h))))
 
-  from_numbers : (form : Form) (most jobs : ℕ) (file : List ℕ) (count at : ℕ) → Each Own (checks_from form most jobs file count at)
+  from_numbers : (most jobs : ℕ) (file : List ℕ) (count at : ℕ) → Each Own (checks_from form most jobs file count at)
   unfolding checks_from record_checks
-  from_numbers form zero jobs file count at = ((4, omega arith, refl), tt)
-  from_numbers form (suc most) jobs file count at = go (leb (length file) at) (from_numbers form most jobs file (count + 1) (at + size_at file at))
+  from_numbers zero jobs file count at = ((4, omega arith, refl), tt)
+  from_numbers (suc most) jobs file count at = go (leb (length file) at) (from_numbers most jobs file (count + 1) (at + size_at file at))
     where
-      own : Each Own (kind_checks (kind_at file at) jobs file at)
-      own = subst (Each Own) (sym (own_checks file at jobs)) (one, (six, ((6, omega arith, refl), tt)))
+      class : List Check
+      class = class_checks form (decoded_rule file at) at
+
+      own : Each Own (kind_checks (kind_at file at) jobs file at ++ class)
+      own =
+          subst (Each Own) (sym (own_checks file at jobs class)) (one, (six, ((6, omega arith, refl), class_own form more (decoded_rule file at) at)))
 
       go : (t : Bool) → Each Own (checks_from form most jobs file (count + 1) (at + size_at file at)) →
           Each Own (cond t [] (record_checks form jobs file count at ++ checks_from form most jobs file (count + 1) (at + size_at file at)))
       go true h = tt
-      go false h = (one, (two, (three, ((4, omega arith, refl), each_join Own (kind_checks (kind_at file at) jobs file at) _ own h))))
+      go false h = (one, (two, (three, ((4, omega arith, refl), each_join Own (kind_checks (kind_at file at) jobs file at ++ class) _ own h))))
 
-  pub file_numbers : (form : Form) (file : List ℕ) → Each Own (file_checks form file)
+  pub file_own : (file : List ℕ) → Each Own (file_checks form file)
   unfolding head_checks
-  file_numbers form file = (
+  file_own file = (
     one,
     (
       two,
@@ -370,23 +389,28 @@ module _ (more : List ℕ) where
             (3, omega arith, refl),
             each_join Own (latest_checks_from (most_jobs + 1) (word file 2) file [] 4) _
                 (latest_numbers (most_jobs + 1) (word file 2) file [] 4)
-                (from_numbers form (most_rules + 1) (word file 2) file 0 (rules_begin file)),
+                (from_numbers (most_rules + 1) (word file 2) file 0 (rules_begin file)),
           ),
         ),
       ),
     ),
   )
 
+own_numbers : (form : Form) (file : List ℕ) → Each (λ (c : Check). Contains (file_numbers form) c.number) (file_checks form file)
+own_numbers form file =
+    subst (λ (ns : List ℕ). Each (λ (c : Check). Contains ns c.number) (file_checks form file)) (append-nil (file_numbers form))
+    (file_own form [] file)
+
 pub file_demand_1 : FileDemand1
 unfolding plan_checks plan_out read_rules read_latest lent
 file_demand_1 =
     record {
-      file = λ form file. rw (file_is form file) (refuses _ _ _ (file_numbers [] form file));
+      file = λ form file. rw (file_is form file) (refuses _ _ _ (own_numbers form file));
       read_book = λ file rules latest.
           record {
             says = rw (read_is file (length rules) (length latest))
                 (refuses _ _ _
-                (each_join _ (file_checks Sent file) _ (file_numbers (21 ∷ []) Sent file) ((9, omega arith, refl), ((9, omega arith, refl), tt))));
+                (each_join _ (file_checks Sent file) _ (file_own Sent (21 ∷ []) file) ((10, omega arith, refl), ((10, omega arith, refl), tt))));
             unchanged = λ number place e. rw e;
           };
       write_plan = λ times out at. refusing _ _ _ _ _ ((0, omega arith, refl), ((1, omega arith, refl), tt));

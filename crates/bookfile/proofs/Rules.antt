@@ -1,6 +1,6 @@
 -- The rules of a book's file, record by record. Assumes nothing.
 use mathlib.Core.Path.{◌≡◌, refl, sym, ap, subst, ◌∙◌}
-use mathlib.Core.List.{List, []}
+use mathlib.Core.List.{List, [], ◌++◌}
 use Prim.Native.Nat.{ℕ, suc, ◌+◌, ◌-◌, ◌<◌, ◌≤◌}
 use native.Mathlib.Omega.{arith}
 use borrow.Author.Tests.{le-leb, lt-leb, ltb-false, leb-false}
@@ -11,7 +11,7 @@ use Rattle.maxatom.proofs.Choose.{cond_yes, cond_no}
 use Rattle.derivation.specs.Refusals.{Reply, refused, answer, accepts}
 use Rattle.derivation.proofs.Checks.{Passes, passed, accepting}
 use Rattle.bookfile.specs.declared.mark.Form.{Form}
-use Rattle.bookfile.specs.Kinds.{kind_checks, kind_at, size_at, decoded_rule}
+use Rattle.bookfile.specs.Kinds.{kind_checks, class_checks, kind_at, size_at, decoded_rule}
 use Rattle.bookfile.specs.Reading.{record_checks, rule_reply, entry, Placed, before, rules_from}
 use Rattle.bookfile.specs.Replies.{counted}
 use Rattle.derivation.specs.declared.Counts.{Counts}
@@ -30,8 +30,9 @@ module _ (form : Form) (jobs : ℕ) (file : List ℕ) (count at : ℕ) {r : Rule
   pub in_file : at + size_at file at ≤ length file
   unfolding record_checks
   in_file =
-      let own : Each Passes (kind_checks (kind_at file at) jobs file at) = passes.1.1.1.1 in
-      ltb-false _ _ (subst (Each Passes) (own_checks file at jobs) own).0
+      let more = class_checks form (decoded_rule file at) at in
+      let own : Each Passes (kind_checks (kind_at file at) jobs file at ++ more) = passes.1.1.1.1 in
+      ltb-false _ _ (subst (Each Passes) (own_checks file at jobs more) own).0
 
   pub not_full : count < most_rules
   unfolding record_checks

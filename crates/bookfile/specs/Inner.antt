@@ -1,12 +1,15 @@
 -- What the contracts of inner functions say.
-use Rattle.std.specs.Prelude.{◌≡◌, List, ◌∷◌, ℕ, ◌+◌, ◌*◌, ◌≤◌, length, drop, Result, Ok, Err}
+use Rattle.std.specs.Prelude.{◌≡◌, List, ◌∷◌, ℕ, ◌+◌, ◌*◌, ◌≤◌, length, drop, Result, Ok, Err, ⊤}
+use Rattle.maxatom.specs.declared.Rule.{Rule}
 use Rattle.derivation.specs.Refusals.{Reply, refused, answer, reply, verdict}
 use Rattle.derivation.specs.declared.Counts.{Counts}
 use Rattle.derivation.specs.declared.Fault.{Fault}
 use Rattle.derivation.specs.declared.Refusal.{Refusal}
 use Rattle.derivation.specs.Faults.{number_of}
 use Rattle.derivation.specs.Replies.{reply_of}
+use Rattle.table.specs.Faults.{bounds_fault, rule_fault}
 use Rattle.bookfile.specs.declared.mark.Form.{Form}
+use Rattle.bookfile.specs.declared.mark.Form.TheVariants.{Sent, Stored}
 use Rattle.bookfile.specs.declared.reading.Checked.{Checked}
 use Rattle.bookfile.specs.declared.reading.LatestTime.{LatestTime}
 use Rattle.bookfile.specs.Numbers.{word}
@@ -21,6 +24,11 @@ said_at place (Err fault) = refused (number_of fault) place
 -- the byte where something ends, or a refusal
 abbrev pub byte_of : Result ℕ Refusal → Reply ℕ
 byte_of r = reply_of (λ at. at) r
+
+-- what is said of a rule in a file of a form
+abbrev pub fields_fault : Form → ℕ → Rule → Result ⊤ Fault
+fields_fault Sent jobs r = rule_fault jobs r
+fields_fault Stored jobs r = bounds_fault jobs r
 
 -- the first record says the job count
 unfoldable pub head_reply : Form → List ℕ → Reply ℕ

@@ -2,7 +2,7 @@
 use Rattle.std.specs.Prelude.{Bool, false, cond, ◌||◌, List, [], ◌∷◌, map, ℕ, ◌+◌, ◌*◌, eqb, leb, ltb, length, ℤ, pos, ◌*ℤ◌}
 use Rattle.maxatom.specs.Book.{most_minutes}
 use Rattle.maxatom.specs.declared.Rule.{Rule}
-use Rattle.derivation.specs.Refusals.{Check, check, jobs_check, job_outside, beyond, latest_outside}
+use Rattle.derivation.specs.Refusals.{Check, check, impossible_check, jobs_check, job_outside, beyond, latest_outside}
 use Rattle.bookfile.specs.Numbers.{word, long, signed16, signed32}
 use Rattle.bookfile.specs.declared.mark.Form.{Form}
 use Rattle.bookfile.specs.declared.mark.Form.TheVariants.{Sent, Stored}
@@ -120,6 +120,11 @@ unfoldable pub kind_among : ℕ → List (Kind Rule) → Kind Rule
 kind_among word [] = RU
 kind_among word (k ∷ []) = k
 kind_among word (k ∷ l ∷ more) = cond (eqb word k.mark) k (kind_among word (l ∷ more))
+
+-- the further checks of a rule whose fields pass: 10, an impossible rule, which a stored file may have
+abbrev pub class_checks : Form → Rule → ℕ → List Check
+class_checks Sent r at = impossible_check r at ∷ []
+class_checks Stored r at = []
 
 -- the kind of a rule's record, by the mark at a byte: a stored file may have every kind
 unfoldable pub kind_at : List ℕ → ℕ → Kind Rule

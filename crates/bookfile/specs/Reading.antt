@@ -5,7 +5,7 @@ use Rattle.maxatom.specs.Book.{most_jobs, most_rules, Book, book}
 use Rattle.maxatom.specs.declared.Rule.{Rule}
 use Rattle.derivation.specs.Refusals.{Reply, refused, answer, Check, check, reply, verdict}
 use Rattle.bookfile.specs.Numbers.{word}
-use Rattle.bookfile.specs.Kinds.{kind_checks, cut, BK, CE, rule_marks, marks, among, kind_at, size_at, decoded_rule}
+use Rattle.bookfile.specs.Kinds.{kind_checks, class_checks, cut, BK, CE, rule_marks, marks, among, kind_at, size_at, decoded_rule}
 use Rattle.bookfile.specs.declared.mark.Form.{Form}
 use Rattle.bookfile.specs.declared.mark.Form.TheVariants.{Sent}
 use Rattle.bookfile.specs.declared.reading.LatestTime.{LatestTime}
@@ -36,7 +36,7 @@ record_checks form jobs file count at =
     ∷ check (not (among (word file at) (marks form))) 2 at
     ∷ check (not (among (word file at) (rule_marks form))) 3 at
     ∷ check (leb most_rules count) 5 at
-    ∷ kind_checks (kind_at file at) jobs file at
+    ∷ kind_checks (kind_at file at) jobs file at ++ class_checks form (decoded_rule file at) at
 
 unfoldable pub rule_reply : Form → ℕ → List ℕ → ℕ → ℕ → Reply Rule
 rule_reply form jobs file count at = reply (record_checks form jobs file count at) (decoded_rule file at)

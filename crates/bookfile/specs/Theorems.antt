@@ -3,6 +3,7 @@ use Rattle.std.specs.Prelude.{◌≡◌, ◌↔◌, true, cond, List, [], ◌∷
 use Rattle.std.specs.Int.{w32}
 use Rattle.std.proofs.Common.{SFits}
 use Rattle.maxatom.specs.Book.{most_jobs, most_rules, book, zeros, Each, minus}
+use Rattle.maxatom.specs.Class.{Possible}
 use Rattle.maxatom.specs.declared.Rule.{Rule}
 use Rattle.derivation.specs.Refusals.{refused, answer, Check, check, verdict, NotRefused}
 use Rattle.derivation.specs.Demand1.{Refuses, Refusing}
@@ -13,7 +14,7 @@ use Rattle.bookfile.specs.declared.mark.Form.TheVariants.{Sent, Stored}
 use Rattle.bookfile.specs.declared.reading.LatestTime.{LatestTime}
 use Rattle.bookfile.specs.Numbers.{word}
 use Rattle.bookfile.specs.Kinds.{BK, CE, among, size_at, decoded_rule}
-use Rattle.bookfile.specs.Reading.{head_checks, latest_here, latest_record_checks, record_checks, Placed, rules_from, latest_by, reading, rules_begin, book_reply, entries, latest_of_file, book_of_file, bytes_at, stretch, record_of}
+use Rattle.bookfile.specs.Reading.{head_checks, latest_here, latest_record_checks, record_checks, Placed, rules_from, latest_by, reading, rules_begin, book_reply, entries, rules_of_file, latest_of_file, book_of_file, bytes_at, stretch, record_of}
 use Rattle.bookfile.specs.Replies.{room_checks, file_reply, read_reply, read_rules, read_latest}
 use Rattle.bookfile.specs.Writing.{plan_bytes, plan_checks, plan_out}
 
@@ -66,13 +67,22 @@ pub record ToTheEnd (form : Form) (file : List ℕ) : Type 0 where
   -- No refusal comes of the bounds: were more than 257 and 1,025 looks allowed, the same would be said.
   pub same : (more others : ℕ) → reading form (most_jobs + 1 + more) (most_rules + 1 + others) file ≡ book_reply form file
 
+-- 10, of a sent file alone
+abbrev pub class_numbers : Form → List ℕ
+class_numbers Sent = 10 ∷ []
+class_numbers Stored = []
+
+-- the numbers of a file's refusals
+abbrev pub file_numbers : Form → List ℕ
+file_numbers form = 1 ∷ 2 ∷ 3 ∷ 4 ∷ 5 ∷ 6 ∷ 7 ∷ 8 ∷ 9 ∷ class_numbers form
+
 -- Demand 1 for the calls on files: reading and writing
 pub record FileDemand1 : Type 0 where
   -- a file of a form alone: nothing is lent that could change
-  pub file : (form : Form) (file : List ℕ) → Refuses (1 ∷ 2 ∷ 3 ∷ 4 ∷ 5 ∷ 6 ∷ 7 ∷ 8 ∷ 9 ∷ []) (file_checks form file) (file_reply form file)
+  pub file : (form : Form) (file : List ℕ) → Refuses (file_numbers form) (file_checks form file) (file_reply form file)
   -- reader: table and list
   pub read_book : (file : List ℕ) (rules : List Rule) (latest : List ℤ) →
-      Refusing {S = List Rule × List ℤ} (1 ∷ 2 ∷ 3 ∷ 4 ∷ 5 ∷ 6 ∷ 7 ∷ 8 ∷ 9 ∷ 21 ∷ [])
+      Refusing {S = List Rule × List ℤ} (file_numbers Sent ++ 21 ∷ [])
       (reader_checks file (length rules) (length latest)) (read_reply file (length rules) (length latest))
       (rules, latest) (read_rules file rules latest, read_latest file rules latest)
   -- plan writer
@@ -102,13 +112,15 @@ pub record RecordFacts (file : List ℕ) (number : ℕ) : Type 0 where
   pub empty : (record_of file number ≡ []) ↔ (length (entries Sent file) ≤ number)
   pub taken : number < length (entries Sent file) → TakenFrom file number
 
--- a file that is not refused holds a book that the calls on a table take, with as many jobs and rules as the reply says
+-- A file that the reader does not refuse holds a book that the calls on a table take, with as many jobs and rules as the reply says; and
+-- none of its rules is a contradiction.
 abbrev pub ReadAccepted : Type 0
 ReadAccepted =
-    (form : Form) (file : List ℕ) (counts : Counts) → file_reply form file ≡ answer counts →
-    NotRefused (book_of_file form file)
-    × (counts.jobs ≡ (book_of_file form file).jobs)
-    × (counts.rules ≡ length (book_of_file form file).rules)
+    (file : List ℕ) (counts : Counts) → file_reply Sent file ≡ answer counts →
+    NotRefused (book_of_file Sent file)
+    × (counts.jobs ≡ (book_of_file Sent file).jobs)
+    × (counts.rules ≡ length (book_of_file Sent file).rules)
+    × Each Possible (rules_of_file Sent file)
 
 -- the file of example B, 52 bytes
 abbrev pub file_b : List ℕ
@@ -128,6 +140,10 @@ file_hour = 66 ∷ 75 ∷ 2 ∷ 0 ∷ 67 ∷ 69 ∷ 1 ∷ 0 ∷ 196 ∷ 255 ∷ 
 abbrev pub file_hours : List ℕ
 file_hours = 66 ∷ 75 ∷ 2 ∷ 0 ∷ 72 ∷ 82 ∷ 0 ∷ 0 ∷ 0 ∷ 0 ∷ 1 ∷ 0 ∷ 255 ∷ 255 ∷ []
 
+-- example D: one job, and a rule that sets it before itself
+abbrev pub file_d : List ℕ
+file_d = 66 ∷ 75 ∷ 1 ∷ 0 ∷ 82 ∷ 85 ∷ 0 ∷ 0 ∷ 0 ∷ 0 ∷ 0 ∷ 0 ∷ 255 ∷ 255 ∷ 255 ∷ 255 ∷ []
+
 -- what these files say
 pub record FileExamples : Type 0 where
   pub counts_b : file_reply Sent file_b ≡ answer (record { jobs = 4; rules = 4 })
@@ -142,3 +158,5 @@ pub record FileExamples : Type 0 where
   pub hours : file_reply Sent file_hours ≡ refused 2 4
   pub hours_stored : file_reply Stored file_hours ≡ answer (record { jobs = 2; rules = 1 })
   pub book_hours : book_of_file Stored file_hours ≡ zeros 2 (record { x = 0; y = 0; z = 1; k = minus 60 } ∷ [])
+  pub impossible : file_reply Sent file_d ≡ refused 10 4
+  pub impossible_stored : file_reply Stored file_d ≡ answer (record { jobs = 1; rules = 1 })

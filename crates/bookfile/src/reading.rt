@@ -7,14 +7,14 @@ ghost use Rattle.bookfile.specs.declared.mark.Form.TheVariants.{Sent};
 ghost use Rattle.bookfile.specs.Kinds.{HR, decoded_latest, size_at, decoded_rule};
 ghost use Rattle.bookfile.specs.Reading.{latest_here, latest_record_reply, latest_from, rule_reply, rules_from, rules_begin, entries, rules_of_file, latest_of_file, place_of, record_of};
 ghost use Rattle.bookfile.specs.Replies.{counted, file_reply, read_reply, read_rules, read_latest};
-ghost use Rattle.bookfile.specs.Inner.{said_at, byte_of, head_reply, ended, checked_reply, Listed, Begins};
+ghost use Rattle.bookfile.specs.Inner.{fields_fault, said_at, byte_of, head_reply, ended, checked_reply, Listed, Begins};
 
 use crate::bytes::{signed32, word};
 use crate::mark::{Form, Mark};
 use derivation::{Counts, Fault, Refusal};
 use maxatom::Rule;
 use std::ops::Range;
-use table::{check_rule, check_time};
+use table::{check_bounds, check_rule, check_time};
 
 // A job and its latest time.
 #[derive(Clone, Copy)]
@@ -117,6 +117,16 @@ fn latest_record(file: &[u8], jobs: usize, seen: &[bool], at: usize) -> Result<L
     Ok(latest)
 }
 
+// The checks of a rule in a file of a form: its numbers, and in a sent file its class.
+fn check_fields(form: Form, jobs: usize, rule: Rule) -> Result<(), Fault>
+    ensures { result ≡ fields_fault form jobs rule }
+{
+    match form {
+        Form::Sent => check_rule(jobs, rule),
+        Form::Stored => check_bounds(jobs, rule),
+    }
+}
+
 // The record that begins at a byte behind the latest times, count rules already read: its checks in order.
 #[tactic(auto, using(crate::proofs::Records::records))]
 fn read_record(form: Form, file: &[u8], jobs: usize, count: usize, at: usize) -> Result<Rule, Fault>
@@ -136,7 +146,7 @@ fn read_record(form: Form, file: &[u8], jobs: usize, count: usize, at: usize) ->
         return Err(Fault::FileEnds);
     }
     let rule = decoded_rule(file, at);
-    check_rule(jobs, rule)?;
+    check_fields(form, jobs, rule)?;
     Ok(rule)
 }
 

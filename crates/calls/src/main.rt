@@ -22,6 +22,14 @@ fn slip(job: u16, before: i32, after: i32) -> Slip {
     Slip { job, before, after }
 }
 
+fn classes(rt: &impl Print, rules: &[Rule]) -> io::Result<()> {
+    for r in rules {
+        let kind = Kind(r.class());
+        print!(rt; " {kind}")?;
+    }
+    Ok(())
+}
+
 fn sum(minutes: &[i32]) -> i64 {
     minutes
         .iter()
@@ -40,10 +48,7 @@ fn bench(
     let book = Book(n, rules.len());
     let last = Minutes("LATEST", latest);
     print!(rt; " {book} {last}")?;
-    for r in rules {
-        let kind = Kind(r.class());
-        print!(rt; " {kind}")?;
-    }
+    classes(rt, rules)?;
     let solved = solve(n, rules, latest, times);
     let run = Said(solved.map(|solved| Run(solved)));
     let left = Minutes("TIMES", times);
@@ -257,19 +262,25 @@ fn limit(
     println!(rt)
 }
 
-// One rule with a list of latest times, and with buffers of a length; what the calls leave in the buffers.
-fn listed(rt: &impl Print, n: usize, r: Rule, latest: &[i32], length: usize) -> io::Result<()> {
-    let numbers = Numbers(r);
+// A table with a list of latest times, and with buffers of a length; what the calls leave in the buffers.
+fn listed(
+    rt: &impl Print,
+    n: usize,
+    rules: &[Rule],
+    latest: &[i32],
+    length: usize,
+) -> io::Result<()> {
     let last = Minutes("LATEST", latest);
-    print!(rt; "LIST {n} {numbers} {length} {last}")?;
+    let table = Table(rules);
+    print!(rt; "LIST {n} {length} {last} {table}")?;
+    classes(rt, rules)?;
     let mut times = [7; 4];
     let mut board = [7; 4];
     if length <= 4 {
-        let rules = [r];
         each_call(
             rt,
             n,
-            &rules,
+            rules,
             latest,
             &mut times[..length],
             &mut board[..length],
@@ -320,22 +331,23 @@ fn most_latest(rt: &impl Print) -> io::Result<()> {
     read_and_called(rt, "MOST", &file)
 }
 
-// A hand step on example D's rule, or on no rule, from any board and tally.
+// A hand step on a rule, or on no rule, from any board and tally.
 fn held(
     rt: &impl Print,
+    r: Rule,
     latest: &[i32],
     times: &mut [i32],
     steps: u64,
     minutes: u64,
     number: usize,
 ) -> io::Result<()> {
-    let rules = [rule(0, 0, 0, -1)];
     let mut tally = Tally { steps, minutes };
+    let numbers = Numbers(r);
     let last = Minutes("LATEST", latest);
     let board = Minutes("TIMES", times);
     let told = Told(tally);
-    print!(rt; "HELD {last} {board} {told} {number}")?;
-    let said = step(times.len(), &rules, latest, times, &mut tally, number);
+    print!(rt; "HELD {numbers} {last} {board} {told} {number}")?;
+    let said = step(times.len(), &[r], latest, times, &mut tally, number);
     let stepped = Said(said.map(|off| Stepped(off)));
     let left = Minutes("TIMES", times);
     let told = Told(tally);
@@ -421,6 +433,87 @@ fn backs(rt: &impl Print) -> io::Result<()> {
     back(rt, &[], &latest, &mut [-2, -2], 2, 2, slip(0, -1, -2))
 }
 
+// Hand steps on boards of two jobs, on a rule that puts job 0 a minute before job 1; among them are 22 to 26 and steps. A case is the two
+// times, the tally's steps and minutes, and the number of the rule that is named.
+fn steps(rt: &impl Print) -> io::Result<()> {
+    let r = rule(1, 1, 0, -1);
+    for (first, last, steps, minutes, number) in [
+        (1, 0, 0, 0, 0),
+        (0, 1, 0, 0, 0),
+        (-3, 0, 3, 3, 0),
+        (-1, 0, 0, 0, 0),
+        (-1, 0, 2, 1, 0),
+        (-1, 0, 1, 1, 1),
+        (-2, 0, 2, 2, 0),
+        (-1, 0, 1, 1, 0),
+        (0, 0, 0, 0, 0),
+        (-1, -1, 1, 2, 0),
+    ] {
+        held(rt, r, &[0, 0], &mut [first, last], steps, minutes, number)?;
+    }
+    for (first, last, steps, minutes, number) in [
+        (-4, -5, 0, 0, 0),
+        (-8, -5, 3, 3, 0),
+        (-6, -5, 1, 0, 0),
+        (-6, -5, 1, 11, 0),
+        (-6, -5, 1, 1, 1),
+        (-7, -5, 2, 2, 0),
+        (-6, -5, 1, 1, 0),
+        (-6, -6, 1, 2, 0),
+    ] {
+        held(rt, r, &[-5, -5], &mut [first, last], steps, minutes, number)?;
+    }
+    for (first, last, minutes) in [
+        (0, -4, 0),
+        (0, -5, 0),
+        (-6, -5, 6),
+        (-6, -6, 7),
+        (-7, -5, 7),
+        (-8, -5, 8),
+    ] {
+        held(rt, r, &[0, -5], &mut [first, last], 0, minutes, 0)?;
+    }
+    Ok(())
+}
+
+// Tables with an impossible rule, and with rules next to that class.
+fn impossible(rt: &impl Print) -> io::Result<()> {
+    let before = rule(0, 0, 0, -1);
+    let last = rule(1, 1, 1, -1);
+    for offset in [-1, -20160, -20161, 0, 1] {
+        listed(rt, 1, &[rule(0, 0, 0, offset)], &[0], 1)?;
+    }
+    listed(rt, 1, &[last], &[0], 1)?;
+    for r in [last, rule(0, 1, 0, -1), rule(1, 0, 0, -1)] {
+        listed(rt, 2, &[r], &[0, 0], 2)?;
+    }
+    // Before and behind another rule: one that is taken, one that is impossible, one with a job of n, one with an offset past the bound.
+    for r in [
+        rule(0, 0, 1, -1),
+        rule(1, 1, 1, -2),
+        rule(0, 0, 2, -1),
+        rule(0, 0, 1, -20161),
+    ] {
+        listed(rt, 2, &[before, r], &[0, 0], 2)?;
+        listed(rt, 2, &[r, before], &[0, 0], 2)?;
+    }
+    // 10 comes before 8 and 21, and behind 4 and 5.
+    listed(rt, 1, &[before], &[1], 1)?;
+    listed(rt, 1, &[before], &[], 1)?;
+    listed(rt, 1, &[before], &[0, 0], 1)?;
+    listed(rt, 1, &[before], &[0], 0)?;
+    listed(rt, 1, &[before], &[0], 2)?;
+    listed(rt, 0, &[before], &[0], 1)?;
+    listed(rt, 257, &[before], &[0], 1)?;
+    limit(rt, 1, before, 1024, 0, 1)?;
+    limit(rt, 1, before, 1025, 0, 1)?;
+    // It comes before 22 to 25.
+    held(rt, before, &[0], &mut [1], 0, 0, 0)?;
+    held(rt, before, &[0], &mut [-1], 0, 0, 0)?;
+    held(rt, before, &[0], &mut [-1], 1, 1, 1)?;
+    held(rt, before, &[0], &mut [-2], 2, 2, 0)
+}
+
 fn main(rt: HostRuntime) -> io::Result<()> {
     for (name, file) in example_books::NAMED {
         example(&rt, name, file)?;
@@ -435,6 +528,10 @@ fn main(rt: HostRuntime) -> io::Result<()> {
     for (name, file) in example_books::LATEST_LIMITS {
         reading(&rt, name, file, 1, 3)?;
     }
+    for (name, file) in example_books::IMPOSSIBLE {
+        reading(&rt, name, file, 3, 3)?;
+    }
+    reading(&rt, "D", example_books::D, 0, 0)?;
     cut_off(&rt, example_books::EARLIEST)?;
     most_latest(&rt)?;
     let idle = rule(0, 0, 0, 0);
@@ -457,47 +554,24 @@ fn main(rt: HostRuntime) -> io::Result<()> {
     }
     let down = rule(0, 0, 1, -1);
     for length in 1..=3 {
-        listed(&rt, 2, down, &[0, 0], length)?;
-        listed(&rt, 2, down, &[0, 1], length)?;
+        listed(&rt, 2, &[down], &[0, 0], length)?;
+        listed(&rt, 2, &[down], &[0, 1], length)?;
     }
-    listed(&rt, 2, down, &[0], 2)?;
-    listed(&rt, 2, down, &[0, 0, 0], 2)?;
-    listed(&rt, 2, down, &[1], 2)?;
-    listed(&rt, 2, down, &[1, 1, 1], 2)?;
-    listed(&rt, 2, down, &[-5, -3], 2)?;
-    listed(&rt, 2, down, &[0, -20160], 2)?;
-    listed(&rt, 2, down, &[0, -20161], 2)?;
-    listed(&rt, 2, down, &[-20161, 1], 2)?;
-    listed(&rt, 2, down, &[-20160, 0], 2)?;
-    listed(&rt, 2, rule(0, 0, 1, -20161), &[0, 1], 2)?;
-    listed(&rt, 2, rule(0, 0, 1, -20161), &[1], 2)?;
-    listed(&rt, 2, rule(0, 0, 2, -1), &[1, 1], 2)?;
-    listed(&rt, 0, down, &[1], 2)?;
-    listed(&rt, 257, down, &[1, 1], 2)?;
-    for (time, steps, minutes, number) in [
-        (1, 0, 0, 0),
-        (-3, 3, 3, 0),
-        (-1, 0, 0, 0),
-        (-1, 2, 1, 0),
-        (-1, 1, 1, 1),
-        (-2, 2, 2, 0),
-        (-1, 1, 1, 0),
-    ] {
-        held(&rt, &[0], &mut [time], steps, minutes, number)?;
-    }
-    for (time, steps, minutes, number) in [
-        (-4, 0, 0, 0),
-        (-8, 3, 3, 0),
-        (-6, 1, 0, 0),
-        (-6, 1, 6, 0),
-        (-6, 1, 1, 1),
-        (-7, 2, 2, 0),
-        (-6, 1, 1, 0),
-    ] {
-        held(&rt, &[-5], &mut [time], steps, minutes, number)?;
-    }
-    for (time, late) in [(0, -4), (0, -5), (-6, -5), (-7, -5), (-8, -5)] {
-        held(&rt, &[0, -5], &mut [time, late], 0, -time as u64, 0)?;
-    }
+    listed(&rt, 2, &[down], &[0], 2)?;
+    listed(&rt, 2, &[down], &[0, 0, 0], 2)?;
+    listed(&rt, 2, &[down], &[1], 2)?;
+    listed(&rt, 2, &[down], &[1, 1, 1], 2)?;
+    listed(&rt, 2, &[down], &[-5, -3], 2)?;
+    listed(&rt, 2, &[down], &[0, -20160], 2)?;
+    listed(&rt, 2, &[down], &[0, -20161], 2)?;
+    listed(&rt, 2, &[down], &[-20161, 1], 2)?;
+    listed(&rt, 2, &[down], &[-20160, 0], 2)?;
+    listed(&rt, 2, &[rule(0, 0, 1, -20161)], &[0, 1], 2)?;
+    listed(&rt, 2, &[rule(0, 0, 1, -20161)], &[1], 2)?;
+    listed(&rt, 2, &[rule(0, 0, 2, -1)], &[1, 1], 2)?;
+    listed(&rt, 0, &[down], &[1], 2)?;
+    listed(&rt, 257, &[down], &[1, 1], 2)?;
+    impossible(&rt)?;
+    steps(&rt)?;
     backs(&rt)
 }

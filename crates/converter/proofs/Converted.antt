@@ -1,10 +1,10 @@
 -- A stored file that is not refused, converted. Assumes nothing.
 use mathlib.Core.Path.{◌≡◌, refl, sym, ap, subst, ◌∙◌}
-use mathlib.Core.Bool.{Bool, true, false, cond, not, and-false}
+use mathlib.Core.Bool.{Bool, true, false, cond, and-false}
 use mathlib.Core.List.{List, [], ◌∷◌, ◌++◌, map}
 use Prim.Native.Nat.{ℕ, zero, suc, ◌+◌, ◌≤◌}
 use native.Mathlib.Omega.{arith}
-use borrow.Author.Tests.{le-leb, lt-leb, eqb-true, not-false}
+use borrow.Author.Tests.{le-leb, lt-leb}
 use lib.Dec.{eqb, leb}
 use lib.ListN.{length, take, drop, length-drop}
 use lib.Seq.{drop-drop, drop_at, take_at, length-take-le}
@@ -12,14 +12,13 @@ use Rattle.std.proofs.lemmas.List.{take-append-drop}
 use Rattle.maxatom.specs.Book.{most_jobs, most_rules, Each}
 use Rattle.maxatom.specs.declared.Rule.{Rule}
 use Rattle.maxatom.proofs.Choose.{cond_yes}
-use Rattle.derivation.specs.Refusals.{Reply, answer, accepts, verdict}
+use Rattle.derivation.specs.Refusals.{Reply, answer}
 use Rattle.derivation.specs.Run.{solve}
-use Rattle.derivation.proofs.Checks.{answer_not, passed, accepting}
-use Rattle.bookfile.specs.declared.mark.Form.{Form}
+use Rattle.derivation.proofs.Checks.{answer_not}
 use Rattle.bookfile.specs.declared.mark.Form.TheVariants.{Sent, Stored}
 use Rattle.bookfile.specs.Numbers.{word}
-use Rattle.bookfile.specs.Kinds.{BK, HR, marks, among, size_at}
-use Rattle.bookfile.specs.Reading.{head_checks, latest_here, rule_reply, entry, Placed, before, rules_from, after, read, end_of, reading, latest_records, rules_begin, rules_of, book_reply, entries, latest_of_file, book_of_file, stretch}
+use Rattle.bookfile.specs.Kinds.{HR, size_at}
+use Rattle.bookfile.specs.Reading.{latest_here, rule_reply, entry, Placed, before, rules_from, read, end_of, latest_records, rules_begin, rules_of, book_reply, entries, latest_of_file, book_of_file, stretch}
 use Rattle.bookfile.specs.Replies.{counted, file_reply}
 use Rattle.bookfile.specs.Inner.{Listed}
 use Rattle.bookfile.specs.Theorems.{stretches}
@@ -29,8 +28,9 @@ use Rattle.bookfile.proofs.Walks.{split, listed, passes_few}
 use Rattle.bookfile.proofs.Openings.{jobs_kept, head_kept, times_kept}
 use Rattle.bookfile.proofs.Refusing.{to_the_end}
 use Rattle.converter.specs.Converting.{converted_record, converted_records, converted}
-use Rattle.converter.specs.Theorems.{Minutes, InMinutes, Converting}
+use Rattle.converter.specs.Theorems.{Minutes, InMinutes, Converting, SentConverts}
 use Rattle.converter.proofs.Records.{converted_size, read_fields, written, record_at, taken}
+use Rattle.converter.proofs.Forms.{read_whole, sent_reply, taken_too}
 
 -- rules, read again from records of 12 bytes each, of which the first begins at a byte
 unfoldable pub moved : ℕ → List Placed → List Placed
@@ -49,7 +49,7 @@ moved_length to (e ∷ es) = ap suc (moved_length (to + 12) es)
 
 -- what is read of a converted file from byte `to` on: these rules, all in minutes, and no latest time
 record Rest (most jobs : ℕ) (file : List ℕ) (count to : ℕ) (es : List Placed) : Type 0 where
-  rules : (form : Form) → rules_from form most jobs file count to ≡ answer (moved to es)
+  rules : rules_from Stored most jobs file count to ≡ answer (moved to es)
   minutes : Each (Minutes file) (moved to es)
   other : latest_here file to ≡ false
 
@@ -74,7 +74,7 @@ rest_of (suc most) jobs file new count at to es few e d =
         let end : length new ≤ to = omega (arith, ap length (d ∙ ap (converted_records file) none), length-drop to new) in
         rw none
         (record {
-          rules = λ form. cond_yes _ _ (le-leb (length new) to end);
+          rules = cond_yes _ _ (le-leb (length new) to end);
           minutes = tt;
           other = rw (lt-leb (to + 2) (length new) (omega arith)) refl;
         })
@@ -91,44 +91,17 @@ rest_of (suc most) jobs file new count at to es few e d =
         let r = f s.others few s.says_more behind in
         rw s.is
         (record {
-          rules = λ form.
+          rules =
               rw (
                 lt-leb (length new) to (omega (arith, stand.inside)),
-                taken stand form jobs count (not_full Stored jobs file count at s.says_first) fields.0 fields.1,
+                taken stand jobs count (not_full Stored jobs file count at s.says_first) fields.0 fields.1,
                 stand.size,
-                r.rules form,
+                r.rules,
               )
               refl;
           minutes = (ap (λ (n : ℕ). eqb n HR.mark) stand.mark, r.minutes);
           other = rw stand.mark (and-false (leb (to + 2) (length new)));
         })
-
--- `BK` is a mark in a file of any form, so a first record that passes in a file of one form passes in a file of any
-book_known : (form : Form) → not (among BK.mark (marks form)) ≡ false
-unfolding among
-book_known Sent = refl
-book_known Stored = refl
-
-pub head_any : (one other : Form) (file : List ℕ) → verdict (head_checks one file) ≡ answer tt →
-    verdict (head_checks other file) ≡ answer tt
-unfolding head_checks accepts
-head_any one other file e =
-    let p = passed (head_checks one file) tt (ap accepts e) in
-    let book : word file 0 ≡ BK.mark = eqb-true (word file 0) BK.mark (not-false _ p.1.1.0) in
-    accepting (head_checks other file) (tt {0}) (p.0, (ap (λ (w : ℕ). not (among w (marks other))) book ∙ book_known other, p.1.1))
-
--- what comes after latest times that are read
-after_read : {A B : Type 0} (said : Reply (List A)) (second : Reply B) → said ≡ answer (read said) → after said second ≡ second
-unfolding after
-after_read said second e = ap (λ s. after s second) e
-
--- a file whose first record passes, and whose latest times and rules are read, has these rules
-pub read_whole : (form : Form) (file : List ℕ) (es : List Placed) → verdict (head_checks form file) ≡ answer tt →
-    latest_records file ≡ answer (read (latest_records file)) → rules_of form file ≡ answer es → book_reply form file ≡ answer es
-unfolding book_reply reading after
-read_whole form file es h t r =
-    ap (λ (s : Reply (Unit {0})). after s (after (latest_records file) (rules_of form file))) h
-    ∙ after_read (latest_records file) (rules_of form file) t ∙ r
 
 -- the file converted
 module _ (file : List ℕ) (l : Listed Stored file) where
@@ -158,35 +131,35 @@ module _ (file : List ℕ) (l : Listed Stored file) where
   times : latest_records (converted file) ≡ latest_records file
   times = times_kept file (converted file) same l rest.other
 
-  rules : (form : Form) → rules_of form (converted file) ≡ answer (moved begin es)
-  rules form =
-      ap (λ (n : ℕ). rules_from form (most_rules + 1) n (converted file) 0 (rules_begin (converted file))) jobs
-      ∙ ap (λ (t : Reply _). rules_from form (most_rules + 1) (word file 2) (converted file) 0 (end_of t)) times
-      ∙ rest.rules form
+  rules : rules_of Stored (converted file) ≡ answer (moved begin es)
+  rules =
+      ap (λ (n : ℕ). rules_from Stored (most_rules + 1) n (converted file) 0 (rules_begin (converted file))) jobs
+      ∙ ap (λ (t : Reply _). rules_from Stored (most_rules + 1) (word file 2) (converted file) 0 (end_of t)) times
+      ∙ rest.rules
 
-  reads : (form : Form) → book_reply form (converted file) ≡ answer (moved begin es)
-  reads form =
-      read_whole form (converted file) (moved begin es) (head_kept file (converted file) same form ∙ head_any Stored form file l.head)
-      (times ∙ l.times ∙ ap (λ (t : Reply _). answer (read t)) (sym times)) (rules form)
+  reads : book_reply Stored (converted file) ≡ answer (moved begin es)
+  reads =
+      read_whole Stored (converted file) (head_kept file (converted file) same Stored ∙ l.head)
+      (times ∙ l.times ∙ ap (λ (t : Reply _). answer (read t)) (sym times)) rules
 
-  counts_same : (form : Form) → file_reply form (converted file) ≡ file_reply Stored file
+  counts_same : file_reply Stored (converted file) ≡ file_reply Stored file
   unfolding file_reply counted
-  counts_same form =
+  counts_same =
       let size : length (moved begin es) ≡ length es = moved_length begin es in
-      ap (λ (n : ℕ). counted n (book_reply form (converted file))) jobs ∙ ap (counted (word file 2)) (reads form)
+      ap (λ (n : ℕ). counted n (book_reply Stored (converted file))) jobs ∙ ap (counted (word file 2)) reads
       ∙ ap (λ (n : ℕ). answer (record { jobs = word file 2; rules = n })) size
-      ∙ sym (ap (counted (word file 2)) (read_whole Stored file es l.head l.times l.all))
+      ∙ sym (ap (counted (word file 2)) (read_whole Stored file l.head l.times l.all))
 
-  read_entries : (form : Form) → entries form (converted file) ≡ moved begin es
+  read_entries : entries Stored (converted file) ≡ moved begin es
   unfolding read
-  read_entries form = ap read (reads form)
+  read_entries = ap read reads
 
-  book_same : (form : Form) → book_of_file form (converted file) ≡ book_of_file Stored file
+  book_same : book_of_file Stored (converted file) ≡ book_of_file Stored file
   unfolding latest_of_file
-  book_same form = rw (times, jobs, read_entries form, moved_rules begin es) refl
+  book_same = rw (times, jobs, read_entries, moved_rules begin es) refl
 
   all_minutes : InMinutes (converted file)
-  all_minutes = subst (Each (Minutes (converted file))) (sym (read_entries Stored)) rest.minutes
+  all_minutes = subst (Each (Minutes (converted file))) (sym read_entries) rest.minutes
 
 -- records in minutes are converted to themselves, and so is a file of them
 minutes_stretches : (file : List ℕ) (es : List Placed) → Each (Minutes file) es → converted_records file es ≡ stretches file es
@@ -205,15 +178,30 @@ itself file l m =
     (take-append-drop begin file)
 
 pub converting : Converting
+unfolding read
 converting file counts e =
     let l = listed Stored file e in
-    let again = listed Stored (converted file) (counts_same file l Stored ∙ e) in
+    let new = converted file in
+    let c : file_reply Stored new ≡ answer counts = counts_same file l ∙ e in
+    let m = all_minutes file l in
     let b = book_same file l in
     record {
-      counts = counts_same file l;
+      said = c;
       book = b;
-      run = ap solve (b Sent);
-      minutes = all_minutes file l;
+      sent = sent_reply new c m;
+      again = λ d f.
+          let r : entries Stored new ≡ entries Sent new = ap read (taken_too new f).entries_are in
+          let k : book_of_file Sent new ≡ book_of_file Stored new = rw r refl in
+          record { book = k ∙ b; run = ap solve (k ∙ b) };
+      minutes = m;
       itself = itself file l;
-      twice = itself (converted file) again (all_minutes file l);
+      twice = itself new (listed Stored new c) m;
     }
+
+-- a file that the reader takes is one in minutes
+pub sent_converts : SentConverts
+unfolding file_reply
+sent_converts file counts e =
+    let t = taken_too file e in
+    let stored : file_reply Stored file ≡ answer counts = ap (counted (word file 2)) t.entries_are ∙ e in
+    (stored, itself file (listed Stored file stored) t.minutes)

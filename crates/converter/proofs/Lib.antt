@@ -1,7 +1,7 @@
 pub mod Records
 pub mod Writing
+pub mod Forms
 pub mod Converted
-pub mod Sent
 pub mod First
 pub mod Refusals
 pub mod Files

@@ -1,7 +1,7 @@
 -- A rule's record, converted, is read to its rule. Assumes nothing.
 use mathlib.Core.Path.{◌≡◌, refl, sym, ap, subst, ◌∙◌}
 use mathlib.Core.Bool.{Bool, true, false, cond, not, ◌||◌}
-use mathlib.Core.List.{List, ◌++◌}
+use mathlib.Core.List.{List, [], ◌++◌}
 use Prim.Native.Nat.{ℕ, ◌+◌, ◌*◌, ◌/◌, ◌%◌, ◌<◌, ◌≤◌}
 use native.Mathlib.Omega.{arith}
 use borrow.Author.Tests.{eqb-true, le-ltb, lt-leb, not-false}
@@ -20,7 +20,6 @@ use Rattle.maxatom.proofs.Integers.{abs_parts}
 use Rattle.maxatom.proofs.Signed.{fits_make}
 use Rattle.derivation.specs.Refusals.{answer, job_outside, offset_outside}
 use Rattle.derivation.proofs.Checks.{Passes, accepting, rule_in_lem}
-use Rattle.bookfile.specs.declared.mark.Form.{Form}
 use Rattle.bookfile.specs.declared.mark.Form.TheVariants.{Sent, Stored}
 use Rattle.bookfile.specs.Numbers.{word, long, signed32, unsigned32, bytes_of}
 use Rattle.bookfile.specs.Kinds.{kind_checks, RU, HR, rule_with, rule_marks, marks, among, kind_at, size_at, decoded_rule}
@@ -83,7 +82,7 @@ sent_mark w e = go (eqb w RU.mark) refl e
     go true p q = eqb-true w RU.mark p
     go false p q = clash q refl
 
-minutes_mark : (w : ℕ) → among w (rule_marks Stored) ≡ true → eqb w HR.mark ≡ false → w ≡ RU.mark
+pub minutes_mark : (w : ℕ) → among w (rule_marks Stored) ≡ true → eqb w HR.mark ≡ false → w ≡ RU.mark
 unfolding among
 minutes_mark w e h = sent_mark w (rw h at e)
 
@@ -101,8 +100,8 @@ module _ (jobs : ℕ) (file : List ℕ) (count at : ℕ) {r : Rule} (e : rule_re
   pub read_fields : (job_outside jobs r ≡ false) × (offset_outside r ≡ false)
   unfolding record_checks
   read_fields =
-      let own : Each Passes (kind_checks (kind_at file at) jobs file at) = (passes Stored jobs file count at e).1.1.1.1 in
-      let f = subst (Each Passes) (own_checks file at jobs) own in
+      let own : Each Passes (kind_checks (kind_at file at) jobs file at ++ []) = (passes Stored jobs file count at e).1.1.1.1 in
+      let f = subst (Each Passes) (own_checks file at jobs []) own in
       rw (rule_is Stored jobs file count at e) (f.1.0, f.1.1.0)
 
   pub written : jobs ≤ most_jobs → ReadsTo (converted_record file (entry at r)) r
@@ -145,24 +144,17 @@ module _ (file : List ℕ) (at : ℕ) (bytes more : List ℕ) (d : drop at file 
             ∙ ap (λ (b : List ℕ). decoded_rule b 0) part ∙ w.says;
       }
 
--- `RU` is a mark, and one of a rule, in a file of any form
-rule_mark : (form : Form) → (among RU.mark (marks form) ≡ true) × (among RU.mark (rule_marks form) ≡ true)
-unfolding among
-rule_mark Sent = (refl, refl)
-rule_mark Stored = (refl, refl)
-
--- and a rule of the book that stands there is read
+-- a rule of the book that stands there is read by the converter
 module _ {file : List ℕ} {at : ℕ} {r : Rule} (s : RecordAt file at r) where
-  pub taken : (form : Form) (jobs count : ℕ) → count < most_rules → job_outside jobs r ≡ false → offset_outside r ≡ false →
-      rule_reply form jobs file count at ≡ answer r
-  unfolding rule_reply record_checks
-  taken form jobs count n j o =
-      let m = rule_mark form in
-      let known : not (among (word file at) (marks form)) ≡ false = rw (s.mark, m.0) refl in
-      let ruled : not (among (word file at) (rule_marks form)) ≡ false = rw (s.mark, m.1) refl in
-      let own : Each Passes (kind_checks (kind_at file at) jobs file at) =
-      subst (Each Passes) (sym (own_checks file at jobs))
+  pub taken : (jobs count : ℕ) → count < most_rules → job_outside jobs r ≡ false → offset_outside r ≡ false →
+      rule_reply Stored jobs file count at ≡ answer r
+  unfolding rule_reply record_checks among
+  taken jobs count n j o =
+      let known : not (among (word file at) (marks Stored)) ≡ false = rw s.mark refl in
+      let ruled : not (among (word file at) (rule_marks Stored)) ≡ false = rw s.mark refl in
+      let own : Each Passes (kind_checks (kind_at file at) jobs file at ++ []) =
+      subst (Each Passes) (sym (own_checks file at jobs []))
       (le-ltb (length file) (at + size_at file at) (omega (arith, s.inside, s.size)), (rw s.says j, (rw s.says o, tt))) in
-      accepting (record_checks form jobs file count at) (decoded_rule file at)
+      accepting (record_checks Stored jobs file count at) (decoded_rule file at)
       (le-ltb (length file) (at + 2) (omega (arith, s.inside)), (known, (ruled, (lt-leb most_rules count n, own))))
       ∙ ap answer s.says

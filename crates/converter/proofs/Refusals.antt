@@ -11,7 +11,7 @@ use Rattle.derivation.proofs.Refusing.{refusing}
 use Rattle.bookfile.specs.declared.mark.Form.TheVariants.{Stored}
 use Rattle.bookfile.specs.Reading.{after}
 use Rattle.bookfile.specs.Theorems.{file_checks}
-use Rattle.bookfile.proofs.Refusing.{after_append, after_any, file_is, file_numbers}
+use Rattle.bookfile.proofs.Refusing.{after_append, after_any, file_is, file_own}
 use Rattle.converter.specs.Converting.{converted, output_checks, convert_reply, convert_out}
 use Rattle.converter.specs.Theorems.{ConverterDemand1}
 
@@ -29,4 +29,4 @@ pub converter_demand_1 : ConverterDemand1
 unfolding convert_out
 converter_demand_1 file out =
     rw (convert_is file (length out))
-    (refusing _ _ _ _ _ (each_join _ (file_checks Stored file) _ (file_numbers (21 ∷ []) Stored file) ((9, omega arith, refl), tt)))
+    (refusing _ _ _ _ _ (each_join _ (file_checks Stored file) _ (file_own Stored (21 ∷ []) file) ((9, omega arith, refl), tt)))

@@ -1,17 +1,16 @@
 -- What is true of converting.
-use Rattle.std.specs.Prelude.{◌≡◌, false, List, [], ◌∷◌, ◌++◌, ℕ, ◌≤◌, eqb, length, take}
+use Rattle.std.specs.Prelude.{◌≡◌, false, List, [], ◌∷◌, ◌++◌, map, ℕ, ◌≤◌, eqb, length, take}
 use Rattle.maxatom.specs.Book.{Each}
-use Rattle.derivation.specs.Refusals.{refused, answer}
+use Rattle.derivation.specs.Refusals.{refused, answer, Check, reply, impossible_check}
 use Rattle.derivation.specs.Run.{solve}
 use Rattle.derivation.specs.Demand1.{Refusing}
 use Rattle.derivation.specs.declared.Counts.{Counts}
-use Rattle.bookfile.specs.declared.mark.Form.{Form}
 use Rattle.bookfile.specs.declared.mark.Form.TheVariants.{Sent, Stored}
 use Rattle.bookfile.specs.Numbers.{word}
 use Rattle.bookfile.specs.Kinds.{HR}
 use Rattle.bookfile.specs.Reading.{Placed, entries, book_of_file}
 use Rattle.bookfile.specs.Replies.{file_reply}
-use Rattle.bookfile.specs.Theorems.{file_checks, file_hours}
+use Rattle.bookfile.specs.Theorems.{file_numbers, file_checks, file_hours}
 use Rattle.converter.specs.Converting.{converted, output_checks, convert_reply, convert_out}
 
 -- demand 1: the refusals of a stored file, then 21, each said when its condition is the first to hold; and a refusal changes nothing that
@@ -19,7 +18,7 @@ use Rattle.converter.specs.Converting.{converted, output_checks, convert_reply, 
 abbrev pub ConverterDemand1 : Type 0
 ConverterDemand1 =
     (file out : List ℕ) →
-    Refusing (1 ∷ 2 ∷ 3 ∷ 4 ∷ 5 ∷ 6 ∷ 7 ∷ 8 ∷ 9 ∷ 21 ∷ []) (file_checks Stored file ++ output_checks file (length out))
+    Refusing (file_numbers Stored ++ 21 ∷ []) (file_checks Stored file ++ output_checks file (length out))
     (convert_reply file (length out)) out (convert_out file out)
 
 -- a rule's record has its offset in minutes
@@ -30,14 +29,27 @@ Minutes file e = eqb (word file e.at) HR.mark ≡ false
 abbrev pub InMinutes : List ℕ → Type 0
 InMinutes file = Each (Minutes file) (entries Stored file)
 
--- a stored file that is not refused, converted
-pub record Converts (file : List ℕ) : Type 0 where
-  -- it is taken by the reader, and by the converter again, with the job count and the rule count of the file
-  pub counts : (form : Form) → file_reply form (converted file) ≡ file_reply Stored file
-  -- and is read to the file's book: job count, latest times, and rules, rule for rule
-  pub book : (form : Form) → book_of_file form (converted file) ≡ book_of_file Stored file
-  -- so the bench run says what it said of the file: plan or none, and the step count
+-- whether the rules that were read are impossible, each with 10 and the byte of its record
+abbrev pub impossible_checks : List Placed → List Check
+impossible_checks es = map (λ (e : Placed). impossible_check e.rule e.at) es
+
+-- What the reader reads of a converted file is what the file holds:
+pub record ReadAgain (file : List ℕ) : Type 0 where
+  -- the book, which is the job count, the latest times, and the rules, rule for rule;
+  pub book : book_of_file Sent (converted file) ≡ book_of_file Stored file
+  -- so the bench run says what it says of the file's book: plan or none, and the step count.
   pub run : solve (book_of_file Sent (converted file)) ≡ solve (book_of_file Stored file)
+
+-- a stored file that is not refused, with its counts, converted
+pub record Converts (file : List ℕ) (counts : Counts) : Type 0 where
+  -- it is taken by the converter again, with the job count and the rule count of the file,
+  pub said : file_reply Stored (converted file) ≡ answer counts
+  -- and has the file's book: job count, latest times, and rules, rule for rule
+  pub book : book_of_file Stored (converted file) ≡ book_of_file Stored file
+  -- the reader refuses it for an impossible rule alone, with 10 and the byte of the first one's record,
+  pub sent : file_reply Sent (converted file) ≡ reply (impossible_checks (entries Stored (converted file))) counts
+  -- and where it takes it, reads what the file holds
+  pub again : (c : Counts) → file_reply Sent (converted file) ≡ answer c → ReadAgain file
   -- no rule of it has its offset in hours
   pub minutes : InMinutes (converted file)
   -- a file without hours is converted to itself,
@@ -46,7 +58,7 @@ pub record Converts (file : List ℕ) : Type 0 where
   pub twice : converted (converted file) ≡ converted file
 
 abbrev pub Converting : Type 0
-Converting = (file : List ℕ) (counts : Counts) → file_reply Stored file ≡ answer counts → Converts file
+Converting = (file : List ℕ) (counts : Counts) → file_reply Stored file ≡ answer counts → Converts file counts
 
 -- a file that the reader takes, the converter takes too, and converts to itself
 abbrev pub SentConverts : Type 0

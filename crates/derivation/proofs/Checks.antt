@@ -1,4 +1,5 @@
--- The refusals: which check is the first to fail, and that a book's checks leave over just the books within the bounds. Assumes nothing.
+-- The refusals: which check is the first to fail, and that a book's checks leave over just the books within the bounds that have no
+-- impossible rule. Assumes nothing.
 use mathlib.Core.Path.{◌≡◌, refl, ap, subst, ◌∙◌}
 use mathlib.Core.Logic.{◌↔◌, ⊎_elim}
 use mathlib.Core.Bool.{Bool, true, false, cond, ◌||◌}
@@ -12,6 +13,7 @@ use lib.Signed.{lt_z}
 use borrow.Author.Tests.{leb-false, ltb-false, le-ltb, lt-leb, eqb-true, eq-eqb, ne_eqb, not-false}
 use Rattle.maxatom.proofs.Lists.{each_join}
 use Rattle.maxatom.specs.Book.{most_jobs, most_rules, most_minutes, Book, Each, minus}
+use Rattle.maxatom.specs.Class.{Possible}
 use Rattle.maxatom.specs.Accepted.{InBook, InTime, Accepted}
 use Rattle.maxatom.specs.declared.Rule.{Rule}
 use Rattle.maxatom.proofs.Choose.{cond_yes, cond_no, clash}
@@ -47,7 +49,7 @@ pub neither_from : (p q : Bool) → p ≡ false → q ≡ false → (p || q) ≡
 neither_from true q e f = clash refl e
 neither_from false q e f = f
 
--- a rule's two checks pass exactly for a rule of the book
+-- a rule's first two checks pass exactly for a rule within the bounds
 pub rule_passes : (jobs : ℕ) (r : Rule) → InBook jobs r → (job_outside jobs r ≡ false) × (offset_outside r ≡ false)
 unfolding job_outside beyond
 rule_passes jobs r b = (
@@ -73,15 +75,17 @@ rule_in_lem jobs r j k =
           (λ (p : dn r.k ≡ 0). omega (arith, abs_parts r.k, le_read (lt_false (pos most_minutes) r.k high))) (one_part r.k);
     }
 
-rules_pass : (jobs at : ℕ) (rules : List Rule) → Each (InBook jobs) rules → Each Passes (rule_checks jobs at rules)
+rules_pass : (jobs at : ℕ) (rules : List Rule) → Each (InBook jobs) rules → Each Possible rules → Each Passes (rule_checks jobs at rules)
 unfolding rule_checks
-rules_pass jobs at [] e = tt
-rules_pass jobs at (r ∷ rules) e = let p = rule_passes jobs r e.0 in (p.0, (p.1, rules_pass jobs (at + 1) rules e.1))
+rules_pass jobs at [] e f = tt
+rules_pass jobs at (r ∷ rules) e f = let p = rule_passes jobs r e.0 in (p.0, (p.1, (f.0, rules_pass jobs (at + 1) rules e.1 f.1)))
 
 pub table_passes : {b : Book} → Accepted b → Each Passes (table_checks b.jobs b.rules)
 unfolding table_checks
-table_passes {b = b} a =
-    (rw (le-ltb b.jobs 1 a.some, le-ltb most_jobs b.jobs a.few), (le-ltb most_rules (length b.rules) a.short, rules_pass b.jobs 0 b.rules a.rules_in))
+table_passes {b = b} a = (
+  rw (le-ltb b.jobs 1 a.some, le-ltb most_jobs b.jobs a.few),
+  (le-ltb most_rules (length b.rules) a.short, rules_pass b.jobs 0 b.rules a.rules_in a.possible),
+)
 
 -- a latest time's check passes exactly for one within the bounds
 time_passes : {t : ℤ} → InTime t → latest_outside t ≡ false
@@ -138,10 +142,11 @@ pub times_pass : {b : Book} (times : List ℤ) → Accepted b → length times �
 unfolding times_checks
 times_pass {b = b} times a e = each_join Passes (book_checks b) _ (book_passes a) (rw (eq-eqb (length times) b.jobs e), tt)
 
-rules_all : (jobs at : ℕ) (rules : List Rule) → Each Passes (rule_checks jobs at rules) → Each (InBook jobs) rules
+rules_all : (jobs at : ℕ) (rules : List Rule) → Each Passes (rule_checks jobs at rules) → Each (InBook jobs) rules × Each Possible rules
 unfolding rule_checks
-rules_all jobs at [] e = tt
-rules_all jobs at (r ∷ rules) e = (rule_in_lem jobs r e.0 e.1.0, rules_all jobs (at + 1) rules e.1.1)
+rules_all jobs at [] e = (tt, tt)
+rules_all jobs at (r ∷ rules) e =
+    let (within, possible) = rules_all jobs (at + 1) rules e.1.1.1 in ((rule_in_lem jobs r e.0 e.1.0, within), (e.1.1.0, possible))
 
 -- an accepting reply has passed every check
 pub passed : {A : Type 0} (checks : List Check) (a : A) → accepts (reply checks a) ≡ true → Each Passes checks
@@ -170,18 +175,20 @@ same_where {A = A} (c ∷ checks) a b h = go c.fails h (λ k. same_where checks 
     go true k f = refl
     go false k f = f k
 
--- the checks leave over just the books within the bounds
+-- the checks leave over just the books within the bounds that have no impossible rule
 pub accepted : (b : Book) → Each Passes (book_checks b) → Accepted b
 unfolding book_checks table_checks
 accepted b e =
     let (p, l) = each_left Passes (table_checks b.jobs b.rules) _ e in
     let (few, many) = neither (ltb b.jobs 1) (ltb most_jobs b.jobs) p.0 in
     let (size, latest) = latest_all b.jobs b.latest l in
+    let (within, possible) = rules_all b.jobs 0 b.rules p.1.1 in
     record {
       some = ltb-false b.jobs 1 few;
       few = ltb-false most_jobs b.jobs many;
       short = ltb-false most_rules (length b.rules) p.1.0;
-      rules_in = rules_all b.jobs 0 b.rules p.1.1;
+      rules_in = within;
+      possible = possible;
       size = size;
       latest_in = latest;
     }

@@ -1,13 +1,13 @@
 -- Demand 2: the bench run says plan exactly where a model exists, of any sign, and its assignment is then the plan. Assumes nothing.
 use mathlib.Core.Path.{◌≡◌, refl, sym, ap, ◌∙◌}
-use mathlib.Core.List.{List, [], ◌∷◌}
-use Prim.Native.Nat.{ℕ, zero, suc, ◌+◌, ◌*◌, ◌<◌}
+use mathlib.Core.List.{List}
+use Prim.Native.Nat.{ℕ, ◌*◌, ◌<◌}
 use native.Mathlib.Omega.{arith}
 use lib.ListN.{length, set}
 use lib.Seq.{get_or-set_same}
 use lib.IntN.{ℤ, pos, ◌+ℤ◌, ◌-ℤ◌}
 use Rattle.maxatom.specs.Rule.{time_at}
-use Rattle.maxatom.specs.Book.{Book, Plan, Satisfiable, zeros, total, smallest, floor, minus}
+use Rattle.maxatom.specs.Book.{Book, Plan, Satisfiable, total, smallest, floor, minus}
 use Rattle.maxatom.specs.Accepted.{Accepted}
 use Rattle.maxatom.specs.declared.Rule.{Rule}
 use Rattle.maxatom.specs.declared.Slip.{Slip}

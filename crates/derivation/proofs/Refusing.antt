@@ -89,7 +89,7 @@ module _ (numbers : List ℕ) (eight : Contains numbers 8) (size : Contains numb
 -- the numbers of the checks of a book and its times, and others behind them
 module _ (more : List ℕ) where
   abbrev numbers : List ℕ
-  numbers = 4 ∷ 5 ∷ 6 ∷ 7 ∷ 8 ∷ 21 ∷ more
+  numbers = 4 ∷ 5 ∷ 6 ∷ 7 ∷ 8 ∷ 10 ∷ 21 ∷ more
 
   abbrev Own : Check → Type 0
   Own c = Contains numbers c.number
@@ -97,29 +97,29 @@ module _ (more : List ℕ) where
   rule_numbers : (jobs at : ℕ) (rules : List Rule) → Each Own (rule_checks jobs at rules)
   unfolding rule_checks
   rule_numbers jobs at [] = tt
-  rule_numbers jobs at (r ∷ rules) = ((2, omega arith, refl), ((3, omega arith, refl), rule_numbers jobs (at + 1) rules))
+  rule_numbers jobs at (r ∷ rules) = ((2, omega arith, refl), ((3, omega arith, refl), ((5, omega arith, refl), rule_numbers jobs (at + 1) rules)))
 
   times_numbers : (b : Book) (times : List ℤ) → Each Own (times_checks b times)
   unfolding table_checks book_checks times_checks
   times_numbers b times =
       each_join Own (book_checks b) _
       (each_join Own (table_checks b.jobs b.rules) _ ((0, omega arith, refl), ((1, omega arith, refl), rule_numbers b.jobs 0 b.rules))
-      (latest_numbers numbers (4, omega arith, refl) (5, omega arith, refl) b.jobs b.latest))
-      ((5, omega arith, refl), tt)
+      (latest_numbers numbers (4, omega arith, refl) (6, omega arith, refl) b.jobs b.latest))
+      ((6, omega arith, refl), tt)
 
 -- and of a state
 state_numbers : (more : List ℕ) (b : Book) (state : State) → Each (Own (22 ∷ 23 ∷ more)) (state_checks b state)
 unfolding state_checks
 state_numbers more b state =
     each_join (Own (22 ∷ 23 ∷ more)) (times_checks b state.times) _ (times_numbers (22 ∷ 23 ∷ more) b state.times)
-    ((6, omega arith, refl), ((7, omega arith, refl), tt))
+    ((7, omega arith, refl), ((8, omega arith, refl), tt))
 
 pub demand_1 : Demand1
 unfolding model_check_call tight_call initial_checks initial_reply initial_times run_reply run_times step_call called_by step_checks back_call back_checks
 demand_1 =
     record {
       model_check = λ b times. refuses _ _ _ (times_numbers [] b times);
-      tight = λ b times number. refuses _ _ _ (each_join _ (times_checks b times) _ (times_numbers (24 ∷ []) b times) ((6, omega arith, refl), tt));
+      tight = λ b times number. refuses _ _ _ (each_join _ (times_checks b times) _ (times_numbers (24 ∷ []) b times) ((7, omega arith, refl), tt));
       initial = λ jobs latest times.
           refusing _ _ _ _ _ (
             (0, omega arith, refl),
@@ -129,10 +129,10 @@ demand_1 =
       step = λ b state number.
           refusing _ _ _ _ _
           (each_join _ (state_checks b state) _ (state_numbers (24 ∷ 25 ∷ 26 ∷ []) b state)
-          ((8, omega arith, refl), ((9, omega arith, refl), ((10, omega arith, refl), tt))));
+          ((9, omega arith, refl), ((10, omega arith, refl), ((11, omega arith, refl), tt))));
       back = λ b state slip.
           refusing _ _ _ _ _
           (each_join _ (state_checks b state) _ (state_numbers (27 ∷ 28 ∷ 29 ∷ []) b state)
-          ((8, omega arith, refl), ((9, omega arith, refl), ((10, omega arith, refl), tt))));
+          ((9, omega arith, refl), ((10, omega arith, refl), ((11, omega arith, refl), tt))));
       solve = λ b buffer. refusing _ _ _ _ _ (times_numbers [] b buffer);
     }

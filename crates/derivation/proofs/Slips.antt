@@ -1,19 +1,18 @@
 -- What a hand step tells, and that a step back by what it told leaves board and tally as they were, on any arguments. Assumes nothing.
 use mathlib.Core.Path.{◌≡◌, refl, sym, ap, subst, ◌∙◌}
-use mathlib.Core.Bool.{Bool, true, false, not, ◌&&◌}
+use mathlib.Core.Bool.{true, false, not}
 use mathlib.Core.List.{List, [], ◌∷◌}
-use Prim.Native.Nat.{ℕ, zero, suc, ◌+◌, ◌-◌, ◌<◌, ◌≤◌}
+use Prim.Native.Nat.{ℕ, zero, suc, ◌+◌, ◌-◌, ◌<◌}
 use native.Mathlib.Omega.{arith}
 use lib.ListN.{length, set, length-set}
 use lib.Seq.{get_or-set_same}
 use lib.IntN.{ℤ, pos, neg_ℤ, ◌+ℤ◌, ◌-ℤ◌}
-use lib.Signed.{◌≤ℤ◌, ◌<ℤ◌, le_z}
+use lib.Signed.{◌≤ℤ◌, ◌<ℤ◌}
 use borrow.Author.Tests.{leb-true, leb-false, le-leb, lt-leb, not-false}
 use Rattle.std.proofs.lemmas.Bool.{and_from, and_parts}
 use Rattle.maxatom.specs.Rule.{time_at, left_side, minutes_off}
 use Rattle.maxatom.specs.Book.{Each, Book, total, floor}
 use Rattle.maxatom.specs.Accepted.{InBook, Accepted}
-use Rattle.maxatom.specs.Runs.{sum_by}
 use Rattle.maxatom.specs.Clauses.{clause_of, left_of}
 use Rattle.maxatom.specs.declared.Rule.{Rule}
 use Rattle.maxatom.specs.declared.Slip.{Slip}
@@ -23,7 +22,7 @@ use Rattle.maxatom.proofs.Derivations.{start, step, not_far}
 use Rattle.maxatom.proofs.Rules.{left_same, in_clauses, weighed, floor_parts}
 use Rattle.derivation.specs.Refusals.{Reply, answer, accepts, lent, times_checks}
 use Rattle.derivation.specs.Step.{State, no_rule, rule_at, lowest, in_range, below_floor, sum_z, fits, state_checks, step_checks, slip_of, step_on, called_by, step_call}
-use Rattle.derivation.specs.Back.{back_on, slip_differs, tally_short, back_checks, back_call}
+use Rattle.derivation.specs.Back.{back_on, back_checks, back_call}
 use Rattle.derivation.specs.declared.Tally.{Tally}
 use Rattle.derivation.specs.Demands.{Told, StepTells}
 use Rattle.derivation.specs.TakingBack.{BackDue, Restores}

@@ -1,5 +1,5 @@
 -- Taking a step back, on any arguments.
-use Rattle.std.specs.Prelude.{Bool, not, ◌||◌, List, [], ◌∷◌, ◌++◌, ℕ, ◌-◌, eqb, leb, set}
+use Rattle.std.specs.Prelude.{Bool, not, ◌||◌, List, [], ◌∷◌, ◌++◌, ◌-◌, eqb, leb, set}
 use Rattle.std.specs.Int.Signed.{le_z, lt_z}
 use Rattle.maxatom.specs.Rule.{time_at, eq_z, minutes_off}
 use Rattle.maxatom.specs.Book.{Book}

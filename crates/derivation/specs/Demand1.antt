@@ -31,21 +31,22 @@ pub record Refusing {A S : Type 0} (numbers : List ℕ) (checks : List Check) (s
 pub record Demand1 : Type 0 where
   -- kept test
   pub model_check : (b : Book) (times : List ℤ) →
-      Refuses (4 ∷ 5 ∷ 6 ∷ 7 ∷ 8 ∷ 21 ∷ []) (times_checks b times) (model_check_call b times)
+      Refuses (4 ∷ 5 ∷ 6 ∷ 7 ∷ 8 ∷ 10 ∷ 21 ∷ []) (times_checks b times) (model_check_call b times)
   -- tight test
   pub tight : (b : Book) (times : List ℤ) (number : ℕ) →
-      Refuses (4 ∷ 5 ∷ 6 ∷ 7 ∷ 8 ∷ 21 ∷ 24 ∷ []) (times_checks b times ++ (rule_check (length b.rules) number ∷ [])) (tight_call b times number)
+      Refuses (4 ∷ 5 ∷ 6 ∷ 7 ∷ 8 ∷ 10 ∷ 21 ∷ 24 ∷ []) (times_checks b times ++ (rule_check (length b.rules) number ∷ []))
+      (tight_call b times number)
   -- fresh board
   pub initial : (jobs : ℕ) (latest times : List ℤ) →
       Refusing (4 ∷ 8 ∷ 21 ∷ []) (initial_checks jobs latest times) (initial_reply jobs latest times) times (initial_times jobs latest times)
   -- hand step: board and tally
   pub step : (b : Book) (state : State) (number : ℕ) →
-      Refusing (4 ∷ 5 ∷ 6 ∷ 7 ∷ 8 ∷ 21 ∷ 22 ∷ 23 ∷ 24 ∷ 25 ∷ 26 ∷ []) (step_checks b state number)
+      Refusing (4 ∷ 5 ∷ 6 ∷ 7 ∷ 8 ∷ 10 ∷ 21 ∷ 22 ∷ 23 ∷ 24 ∷ 25 ∷ 26 ∷ []) (step_checks b state number)
       (step_call b state number).said state (step_call b state number).after
   -- step back: board and tally
   pub back : (b : Book) (state : State) (slip : Slip) →
-      Refusing (4 ∷ 5 ∷ 6 ∷ 7 ∷ 8 ∷ 21 ∷ 22 ∷ 23 ∷ 27 ∷ 28 ∷ 29 ∷ []) (back_checks b state slip)
+      Refusing (4 ∷ 5 ∷ 6 ∷ 7 ∷ 8 ∷ 10 ∷ 21 ∷ 22 ∷ 23 ∷ 27 ∷ 28 ∷ 29 ∷ []) (back_checks b state slip)
       (back_call b state slip).said state (back_call b state slip).after
   -- bench run
   pub solve : (b : Book) (buffer : List ℤ) →
-      Refusing (4 ∷ 5 ∷ 6 ∷ 7 ∷ 8 ∷ 21 ∷ []) (times_checks b buffer) (run_reply b buffer) buffer (run_times b buffer)
+      Refusing (4 ∷ 5 ∷ 6 ∷ 7 ∷ 8 ∷ 10 ∷ 21 ∷ []) (times_checks b buffer) (run_reply b buffer) buffer (run_times b buffer)

@@ -1,5 +1,5 @@
 -- The ★ examples of document 01, and three with latest times of their own: one table, and one test over it.
-use Rattle.std.specs.Prelude.{Bool, true, false, ◌&&◌, List, [], ◌∷◌, ℕ, eqb, ℤ, pos}
+use Rattle.std.specs.Prelude.{Bool, true, false, ◌&&◌, List, [], ◌∷◌, ℕ, ◌+◌, eqb, ℤ, pos}
 use Rattle.std.specs.Bool.{beq}
 use Rattle.maxatom.specs.Rule.{satisfied, tight, eq_z}
 use Rattle.maxatom.specs.Class.{class_of, number_of_class}
@@ -8,18 +8,22 @@ use Rattle.maxatom.specs.Runs.{End, planned, fell, unfinished}
 use Rattle.maxatom.specs.declared.Rule.{Rule}
 use Rattle.maxatom.specs.declared.Slip.{Slip}
 use Rattle.maxatom.specs.declared.Class.{Class}
-use Rattle.maxatom.specs.declared.Class.TheVariants.{Tautology, Difference}
+use Rattle.maxatom.specs.declared.Class.TheVariants.{Tautology, Contradiction, Difference}
 use Rattle.derivation.specs.Refusals.{Reply, refused, answer, accepts}
-use Rattle.derivation.specs.Step.{State, rule_at, step_call}
+use Rattle.derivation.specs.Step.{State, initial, rule_at, step_call}
 use Rattle.derivation.specs.Back.{back_call}
-use Rattle.derivation.specs.Run.{solve}
+use Rattle.derivation.specs.Run.{step_bound, solve}
+use Rattle.derivation.specs.Calls.{model_check_call, tight_call, run_reply}
 
--- what is claimed of a book
+-- What is claimed of a book. `past_bound`: the bench run takes one step more than the bound. `refusal_is`: each call on the book's table,
+-- lent the fresh board and a zero tally, is refused with this number and place.
 pub data Claim : Type 0 where
   plan_said : List ℤ → Claim
   none_said : Claim
   none_at : Slip → Claim
   steps_are : ℕ → Claim
+  past_bound : Claim
+  refusal_is : ℕ → ℕ → Claim
   total_is : ℕ → Claim
   class_is : ℕ → Class → Claim
   tight_is : ℕ → List ℤ → Bool → Claim
@@ -52,12 +56,12 @@ stars =
     record { book = zeros 1 []; claims = plan_said (pos 0 ∷ []) ∷ steps_are 0 ∷ [] }
     ∷ record { book = zeros 4 example_b; claims = plan_said plan_b ∷ steps_are 23 ∷ total_is 36 ∷ tight_is 0 plan_b true ∷ tight_is 1 plan_b true ∷ tight_is 2 plan_b true ∷ tight_is 3 plan_b false ∷ [] }
     ∷ record { book = zeros 4 (rule 0 0 (minus 10) 1 ∷ rule 3 3 (pos 0) 2 ∷ rule 1 2 (minus 1) 3 ∷ rule 1 0 (pos 25) 3 ∷ rule 1 2 (pos 9) 0 ∷ []); claims = none_said ∷ [] }
-    ∷ record { book = zeros 1 (rule 0 0 (minus 1) 0 ∷ []); claims = none_at (slip 0 (minus 1) (minus 2)) ∷ steps_are 2 ∷ total_is 1 ∷ [] }
+    ∷ record { book = zeros 1 (rule 0 0 (minus 1) 0 ∷ []); claims = class_is 0 Contradiction ∷ refusal_is 10 0 ∷ [] }
     ∷ record { book = zeros 1 (rule 0 0 (pos 0) 0 ∷ []); claims = class_is 0 Tautology ∷ plan_said (pos 0 ∷ []) ∷ steps_are 0 ∷ [] }
     ∷ record { book = zeros 2 (rule 0 1 (minus 1) 0 ∷ []); claims = class_is 0 Difference ∷ plan_said (minus 1 ∷ pos 0 ∷ []) ∷ steps_are 1 ∷ [] }
     ∷ record { book = zeros 2 (rule 0 0 (minus 5) 1 ∷ []); claims = plan_said (pos 0 ∷ minus 5 ∷ []) ∷ steps_are 1 ∷ [] }
     ∷ record { book = zeros 2 (rule 0 0 (pos 5) 1 ∷ []); claims = plan_said (pos 0 ∷ pos 0 ∷ []) ∷ tight_is 0 (pos 0 ∷ pos 0 ∷ []) false ∷ [] }
-    ∷ record { book = zeros 2 (rule 0 0 (minus 1) 1 ∷ rule 1 1 (pos 0) 0 ∷ []); claims = none_at (slip 1 (minus 1) (minus 2)) ∷ steps_are 3 ∷ [] }
+    ∷ record { book = zeros 2 (rule 0 0 (minus 1) 1 ∷ rule 1 1 (pos 0) 0 ∷ []); claims = none_at (slip 1 (minus 1) (minus 2)) ∷ steps_are 3 ∷ past_bound ∷ total_is 1 ∷ [] }
     ∷ record { book = zeros 2 (rule 0 0 (minus 1) 1 ∷ rule 1 1 (pos 1) 0 ∷ []); claims = plan_said (pos 0 ∷ minus 1 ∷ []) ∷ steps_are 1 ∷ [] }
     ∷ record {
       book = zeros 2 (rule 0 1 (minus 1) 0 ∷ rule 0 0 (minus 3) 1 ∷ []);
@@ -88,6 +92,10 @@ unfoldable pub says_slip : Reply Slip → Slip → Bool
 says_slip (refused number place) s = false
 says_slip (answer t) s = same_slip t s
 
+unfoldable pub says_refused : {A : Type 0} → Reply A → ℕ → ℕ → Bool
+says_refused (refused number place) n p = eqb number n && eqb place p
+says_refused (answer a) n p = false
+
 unfoldable pub same_end : End → End → Bool
 same_end planned planned = true
 same_end planned (fell j) = false
@@ -112,6 +120,14 @@ holds b (plan_said times) = let run = solve b in same_end run.end planned && sam
 holds b none_said = is_fall (solve b).end
 holds b (none_at last) = same_end (solve b).end (fell last)
 holds b (steps_are n) = eqb (solve b).steps n
+holds b past_bound = eqb (solve b).steps (step_bound b + 1)
+holds b (refusal_is n p) =
+    let state = initial b in
+    says_refused (model_check_call b state.times) n p
+    && says_refused (tight_call b state.times 0) n p
+    && says_refused (step_call b state 0).said n p
+    && says_refused (back_call b state (slip 0 (pos 0) (minus 1))).said n p
+    && says_refused (run_reply b state.times) n p
 holds b (total_is n) = eqb (total b.rules) n
 holds b (class_is number c) = eqb (number_of_class (class_of (rule_at b.rules number))) (number_of_class c)
 holds b (tight_is number times said) = beq (tight (rule_at b.rules number) times) said

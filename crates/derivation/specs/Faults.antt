@@ -1,7 +1,7 @@
 -- The number of each refusal, as the two lists of refusals have it.
 use Rattle.std.specs.Prelude.{ℕ}
 use Rattle.derivation.specs.declared.Fault.{Fault}
-use Rattle.derivation.specs.declared.Fault.TheVariants.{FileEnds, UnknownMark, RecordPlace, JobCount, RuleCount, JobNumber, Offset, LatestTime, SecondLatest, Length, IllegalBoard, TallyDiffers, NoSuchRule, ShowsNone, Satisfied, NoSuchJob, SlipDiffers, TallyShort}
+use Rattle.derivation.specs.declared.Fault.TheVariants.{FileEnds, UnknownMark, RecordPlace, JobCount, RuleCount, JobNumber, Offset, LatestTime, SecondLatest, ImpossibleRule, Length, IllegalBoard, TallyDiffers, NoSuchRule, ShowsNone, Satisfied, NoSuchJob, SlipDiffers, TallyShort}
 use Rattle.derivation.specs.declared.Refusal.{Refusal}
 
 abbrev pub number_of : Fault → ℕ
@@ -14,6 +14,7 @@ number_of JobNumber = 6
 number_of Offset = 7
 number_of LatestTime = 8
 number_of SecondLatest = 9
+number_of ImpossibleRule = 10
 number_of Length = 21
 number_of IllegalBoard = 22
 number_of TallyDiffers = 23

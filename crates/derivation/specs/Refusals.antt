@@ -1,6 +1,7 @@
 -- Refusals: the documents' two lists, in their order, each with its number and place.
 use Rattle.std.specs.Prelude.{◌≡◌, Bool, true, false, cond, not, ◌||◌, List, [], ◌∷◌, ◌++◌, ℕ, ◌+◌, eqb, leb, ltb, length, ℤ, pos}
 use Rattle.std.specs.Int.Signed.{lt_z}
+use Rattle.maxatom.specs.Class.{contradiction}
 use Rattle.maxatom.specs.Book.{most_jobs, most_rules, most_minutes, Book, minus}
 use Rattle.maxatom.specs.declared.Rule.{Rule}
 
@@ -59,10 +60,15 @@ beyond limit n = lt_z n (minus limit) || lt_z (pos limit) n
 abbrev pub offset_outside : Rule → Bool
 offset_outside r = beyond most_minutes r.k
 
--- for each rule, 6 before 7; `at` is the first rule's number
+-- 10: a rule in the impossible class
+abbrev pub impossible_check : Rule → ℕ → Check
+impossible_check r place = check (contradiction r) 10 place
+
+-- for each rule 6, then 7, then 10; `at` is the first rule's number
 unfoldable pub rule_checks : ℕ → ℕ → List Rule → List Check
 rule_checks jobs at [] = []
-rule_checks jobs at (r ∷ rules) = check (job_outside jobs r) 6 at ∷ check (offset_outside r) 7 at ∷ rule_checks jobs (at + 1) rules
+rule_checks jobs at (r ∷ rules) =
+    check (job_outside jobs r) 6 at ∷ check (offset_outside r) 7 at ∷ impossible_check r at ∷ rule_checks jobs (at + 1) rules
 
 -- a table
 unfoldable pub table_checks : ℕ → List Rule → List Check

@@ -36,6 +36,8 @@ pub enum Fault {
     LatestTime,
     // A second latest time for one job (9).
     SecondLatest,
+    // A rule is in the impossible class (10).
+    ImpossibleRule,
     // What is lent has the wrong length (21).
     Length,
     // The board is not legal (22).
@@ -70,6 +72,7 @@ impl From<Fault> for u8 {
             Fault::Offset => 7,
             Fault::LatestTime => 8,
             Fault::SecondLatest => 9,
+            Fault::ImpossibleRule => 10,
             Fault::Length => 21,
             Fault::IllegalBoard => 22,
             Fault::TallyDiffers => 23,

@@ -104,6 +104,16 @@ fn write_latest(times: usize, file: &mut [u8; 14360])
     }
 }
 
+// Writes `rules` idle rules from a byte on.
+fn write_rules(begin: usize, rules: usize, file: &mut [u8; 14360])
+    requires { (begin ≤ 2060) × (rules ≤ 1025) }
+{
+    for i in 0..rules {
+        let at = begin + i * 12;
+        file[at..at + 12].copy_from_slice(&rule(0, 0));
+    }
+}
+
 // What the reader answers for a book of 256 jobs with `times` latest times and `rules` rules.
 fn with_records(rt: &impl Print, times: usize, rules: usize) -> io::Result<()>
     requires { (times ≤ 257) × (rules ≤ 1025) }
@@ -113,11 +123,21 @@ fn with_records(rt: &impl Print, times: usize, rules: usize) -> io::Result<()>
     let mut file = [0; 14360];
     write_latest(times, &mut file);
     let begin = 4 + times * 8;
-    for i in 0..rules {
-        let at = begin + i * 12;
-        file[at..at + 12].copy_from_slice(&rule(0, 0));
-    }
+    write_rules(begin, rules, &mut file);
     show(rt, &file[..begin + rules * 12])
+}
+
+// What the reader answers for an impossible rule behind `rules` idle ones.
+fn impossible_behind(rt: &impl Print, rules: usize) -> io::Result<()>
+    requires { rules ≤ 1024 }
+{
+    print!(rt; "impossible, behind {rules} rules: ")?;
+    let mut file = [0; 14360];
+    file[..4].copy_from_slice(&book(1));
+    write_rules(4, rules, &mut file);
+    let at = 4 + rules * 12;
+    file[at..at + 12].copy_from_slice(&rule(0, 4294967295));
+    show(rt, &file[..at + 12])
 }
 
 // What the converter answers for a book of 256 jobs with 256 latest times and `rules` rules in hours, lent an output of `room` bytes.
@@ -150,7 +170,7 @@ fn one_record(rt: &impl Print, jobs: u16, bytes: &[u8]) -> io::Result<()>
 // An offset by its 32 bits.
 fn with_offset(rt: &impl Print, bits: u32) -> io::Result<()> {
     print!(rt; "offset bits {bits}: ")?;
-    one_record(rt, 1, &rule(0, bits))
+    one_record(rt, 2, &rule(1, bits))
 }
 
 fn with_job(rt: &impl Print, jobs: u16, z: u16) -> io::Result<()> {
@@ -179,6 +199,16 @@ fn convert_hours(rt: &impl Print, bits: u16, room: usize) -> io::Result<()>
 {
     print!(rt; "convert hours bits {bits}")?;
     show_converted(rt, &hours_file(1, 0, bits), room)
+}
+
+// What the reader answers for the converted file of a stored one.
+fn read_converted(rt: &impl Print, name: &str, file: &[u8]) -> io::Result<()> {
+    print!(rt; "converted, {name}: ")?;
+    let mut out = [0; 48];
+    match convert(file, &mut out) {
+        Ok(length) => show(rt, &out[..length.min(48)]),
+        Err(refusal) => refused(rt, refusal),
+    }
 }
 
 fn convert_job(rt: &impl Print, jobs: u16, z: u16) -> io::Result<()> {
@@ -229,6 +259,12 @@ fn main(rt: HostRuntime) -> io::Result<()> {
         print!(rt; "latest times, ")?;
         named(&rt, name, file)?;
     }
+    for (name, file) in example_books::IMPOSSIBLE {
+        print!(rt; "impossible, ")?;
+        named(&rt, name, file)?;
+    }
+    impossible_behind(&rt, 1023)?;
+    impossible_behind(&rt, 1024)?;
     cut_off(&rt, example_books::EARLIEST)?;
     named(&rt, "42 4B 01 00 52", b"\x42\x4B\x01\x00\x52")?;
     named(&rt, "no byte", b"")?;
@@ -254,6 +290,16 @@ fn main(rt: HostRuntime) -> io::Result<()> {
         print!(rt; "convert latest times, {name}")?;
         show_converted(&rt, file, 28)?;
     }
+    for (name, file) in example_books::IMPOSSIBLE {
+        print!(rt; "convert impossible, {name}")?;
+        show_converted(&rt, file, 28)?;
+    }
+    read_converted(&rt, "hours and minutes", example_books::IN_HOURS)?;
+    read_converted(
+        &rt,
+        "hours of an impossible rule",
+        example_books::IMPOSSIBLE_HOURS,
+    )?;
     convert_cut_off(&rt, &hours_file(2, 1, 65535))?;
     with_times(&rt, 0, 0)?;
     with_times(&rt, 1, 0)?;

@@ -18,6 +18,10 @@ tautology r = not (negative r) && (eqb r.z r.x || eqb r.z r.y)
 unfoldable pub contradiction : Rule → Bool
 contradiction r = negative r && (eqb r.z r.x && eqb r.z r.y)
 
+-- a rule that is not impossible
+abbrev pub Possible : Rule → Type 0
+Possible r = contradiction r ≡ false
+
 -- one-armed: k is negative and z is just one of x and y, or x = y and z differs
 unfoldable pub difference : Rule → Bool
 difference r =

@@ -14,17 +14,18 @@ use borrow.Author.Tests.{le-ltb, lt-ltb, eq-eqb, ne_eqb}
 use Rattle.std.specs.Prelude.{Result, Ok, Err, MatchResult, IsErrAnd, is_ok, ⊤}
 use Rattle.std.proofs.lemmas.Result.{err_from_is_err_and}
 use Rattle.maxatom.specs.Book.{Book, book, Each, total}
+use Rattle.maxatom.specs.Class.{contradiction}
 use Rattle.maxatom.specs.Accepted.{InBook, Accepted}
 use Rattle.maxatom.specs.declared.Rule.{Rule}
 use Rattle.maxatom.proofs.Choose.{clash}
 use Rattle.derivation.specs.Faults.{number_of}
 use Rattle.derivation.specs.declared.Fault.{Fault}
-use Rattle.derivation.specs.declared.Fault.TheVariants.{JobNumber, Offset}
+use Rattle.derivation.specs.declared.Fault.TheVariants.{JobNumber, Offset, ImpossibleRule}
 use Rattle.derivation.specs.Refusals.{Reply, refused, answer, accepts, Check, reply, verdict, jobs_check, count_check, size_check, job_outside, offset_outside, rule_checks, table_checks, latest_checks, book_checks, times_checks}
 use Rattle.derivation.specs.Replies.{outcome_reply}
 use Rattle.derivation.specs.declared.Refusal.{Refusal}
 use Rattle.derivation.proofs.Checks.{Passes, says, skips, passed, accepting, rule_in_lem, refused_append, answered_append, times_accepted}
-use Rattle.table.specs.Faults.{rule_fault}
+use Rattle.table.specs.Faults.{bounds_then, rule_fault}
 use Rattle.planner.specs.Checks.{checks_reply}
 
 -- one rule: what is said of it comes before what is said of those after it
@@ -38,22 +39,26 @@ module _ (jobs : ℕ) (r : Rule) where
     before (Err fault) = refused (number_of fault) at
 
     rule_says : before (rule_fault jobs r) ≡ reply (rule_checks jobs at (r ∷ rules) ++ more) a
-    unfolding rule_fault reply rule_checks
-    rule_says = by (job_outside jobs r) (offset_outside r)
+    unfolding bounds_then reply rule_checks
+    rule_says = by (job_outside jobs r) (offset_outside r) (contradiction r)
       where
-        by : (p q : Bool) → before (cond p (Err JobNumber) (cond q (Err Offset) (Ok tt))) ≡ cond p (refused 6 at) (cond q (refused 7 at) after)
-        by true q = refl
-        by false true = refl
-        by false false = refl
+        by : (p q i : Bool) → before (cond p (Err JobNumber) (cond q (Err Offset) (cond i (Err ImpossibleRule) (Ok tt))))
+            ≡ cond p (refused 6 at) (cond q (refused 7 at) (cond i (refused 10 at) after))
+        by true q i = refl
+        by false true i = refl
+        by false false true = refl
+        by false false false = refl
 
   pub rule_in : rule_fault jobs r ≡ Ok tt → InBook jobs r
-  unfolding rule_fault
-  rule_in e = let (p, q) = by (job_outside jobs r) (offset_outside r) e in rule_in_lem jobs r p q
+  unfolding bounds_then
+  rule_in e =
+      let (p, q) = by (job_outside jobs r) (offset_outside r) (cond (contradiction r) (Err ImpossibleRule) (Ok tt)) e in rule_in_lem jobs r p q
     where
-      by : (p q : Bool) → ◌≡◌ {A = Result ⊤ Fault} (cond p (Err JobNumber) (cond q (Err Offset) (Ok tt))) (Ok tt) → (p ≡ false) × (q ≡ false)
-      by true q e = cc
-      by false true e = cc
-      by false false e = (refl, refl)
+      by : (p q : Bool) (rest : Result ⊤ Fault) → ◌≡◌ {A = Result ⊤ Fault} (cond p (Err JobNumber) (cond q (Err Offset) rest)) (Ok tt) →
+          (p ≡ false) × (q ≡ false)
+      by true q rest e = cc
+      by false true rest e = cc
+      by false false rest e = (refl, refl)
 
 -- what a map of an error says, read from its result
 pub mapped_err : {A D E : Type 0} (P : D → E → Type 0) (v : Result A D) {w : Result A E} {q : E} → MatchResult v (λ x. w ≡ Ok x) (λ e. IsErrAnd w (P e)) → w ≡ Err q → (e : D) × (v ≡ Err e) × P e q

@@ -89,13 +89,13 @@ put_first new places e = rw e (take-append_seam new (drop (length new) places))
 -- a file that is not refused
 module _ (file : List ℕ) {counts : Counts} (e : file_reply Sent file ≡ answer counts) where
   is_accepted : Accepted (book_of_file Sent file)
-  is_accepted = (accepted_iff (book_of_file Sent file)).0 (read_accepted Sent file counts e).0
+  is_accepted = (accepted_iff (book_of_file Sent file)).0 (read_accepted file counts e).0
 
   jobs_are : counts.jobs ≡ (book_of_file Sent file).jobs
-  jobs_are = (read_accepted Sent file counts e).1
+  jobs_are = (read_accepted file counts e).1
 
   rules_are : counts.rules ≡ length (rules_of_file Sent file)
-  rules_are = (read_accepted Sent file counts e).2
+  rules_are = (read_accepted file counts e).2
 
 -- 1,024 places hold the rules of any file that is not refused, and 256 its latest times
 pub read_same : (file : List ℕ) → read_reply file 1024 256 ≡ file_reply Sent file

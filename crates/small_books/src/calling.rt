@@ -1,9 +1,11 @@
-// A fresh board's state, and one call on a state, by the library.
+// By the library: a fresh board's state, a call on a state, and every call on a table with an impossible rule.
 ghost use Rattle.std.specs.Prelude.{◌≤◌};
 
 use crate::reference;
 use crate::reference::{Call, Called, State};
-use planner::{Rule, Tally, initial, step, step_back};
+use planner::{
+    Fault, Refusal, Rule, Slip, Tally, first_violated, initial, is_tight, solve, step, step_back,
+};
 
 // A fresh board, with a tally of zero; `None` where it is not at the latest times.
 pub fn fresh(n: usize, latest: [i32; 3]) -> Option<State>
@@ -20,6 +22,38 @@ pub fn fresh(n: usize, latest: [i32; 3]) -> Option<State>
             minutes: 0,
         },
     })
+}
+
+// Whether every call on a table is refused with 10 and this rule's number, and leaves what it is lent as it was.
+pub fn all_refuse(n: usize, rules: &[Rule], latest: [i32; 3], number: usize) -> bool
+    requires { n ≤ 3 }
+{
+    let refusal = Refusal {
+        fault: Fault::ImpossibleRule,
+        place: number,
+    };
+    let slip = Slip {
+        job: 0,
+        before: 0,
+        after: 0,
+    };
+    let state = State {
+        times: [7; 3],
+        tally: Tally {
+            steps: 0,
+            minutes: 0,
+        },
+    };
+    let mut after = state;
+    let last = &latest[..n];
+    let times = &mut after.times[..n];
+    let tally = &mut after.tally;
+    let refused = solve(n, rules, last, times) == Err(refusal)
+        && first_violated(n, rules, last, times) == Err(refusal)
+        && is_tight(n, rules, last, times, number) == Err(refusal)
+        && step(n, rules, last, times, tally, number) == Err(refusal)
+        && step_back(n, rules, last, times, tally, slip) == Err(refusal);
+    refused && after == state
 }
 
 // What a call says, and the state after it; `None` where the reference says or leaves anything else.

@@ -1,6 +1,7 @@
 // Every book of up to two rules over two jobs, and of two rules over three, with offsets from -1 to 1 and latest times from -2 to 0: the
 // bench run, hand steps in three orders, and a search over all times from -6 up to the latest times must agree. Then hand steps are mixed
-// with steps back, in three ways. What the bench run and each call answer and leave must be what the reference here says.
+// with steps back, in three ways. What the bench run and each call answer and leave must be what the reference here says. A book with an
+// impossible rule is counted apart: every call must refuse it with the number of the first such rule, and the search must find nothing.
 
 #![tactic(auto)]
 
@@ -12,10 +13,10 @@ mod mixed;
 mod reference;
 
 use books::{are_ascending, latest_of, rules_of};
-use calling::{called, fresh};
+use calling::{all_refuse, called, fresh};
 use mixed::{Mix, Played, play};
 use planner::{Fault, Refusal, Rule, Solved, Tally, first_violated, solve};
-use reference::{Call, all_satisfied, depth};
+use reference::{Call, all_satisfied, depth, first_impossible};
 use std::fmt::Display;
 use std::{fmt, io};
 
@@ -238,6 +239,8 @@ impl Totals {
 fn show(rt: &impl Print, n: usize, count: usize, many: usize, choices: usize) -> io::Result<()>
     requires { (0 < n) × (n ≤ 3) × (count ≤ 2) × (many ≤ 6561) × (choices ≤ 27) }
 {
+    let mut impossible = 0u64;
+    let mut differing = 0u64;
     let mut run = Sums::new();
     let mut down = Sums::new();
     let mut up = Sums::new();
@@ -252,6 +255,13 @@ fn show(rt: &impl Print, n: usize, count: usize, many: usize, choices: usize) ->
             let latest = latest_of(choice);
             if are_ascending(latest) {
                 let answer = searched(rules, latest);
+                if let Some(number) = first_impossible(rules) {
+                    impossible = impossible.saturating_add(1);
+                    if answer != Answer::None || !all_refuse(n, rules, latest, number) {
+                        differing = differing.saturating_add(1);
+                    }
+                    continue;
+                }
                 run.count(answer, by_run(n, rules, latest));
                 down.count(answer, by_hand(Order::Down, n, rules, latest));
                 up.count(answer, by_hand(Order::Up, n, rules, latest));
@@ -266,6 +276,7 @@ fn show(rt: &impl Print, n: usize, count: usize, many: usize, choices: usize) ->
             }
         }
     }
+    println!(rt; "JOBS {n} RULES {count} IMPOSSIBLE BOOKS {impossible} DIFFERING {differing}")?;
     for (name, sums) in [("RUN", run), ("DOWN", down), ("UP", up), ("FIRST", first)] {
         println!(rt; "JOBS {n} RULES {count} {name} {sums}")?;
     }

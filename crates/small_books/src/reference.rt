@@ -33,6 +33,13 @@ pub fn all_satisfied(rules: &[Rule], times: [i32; 3]) -> bool {
     rules.iter().all(|r| is_satisfied(*r, times))
 }
 
+// The number of the first rule that puts a job before itself, if any.
+pub fn first_impossible(rules: &[Rule]) -> Option<usize> {
+    rules
+        .iter()
+        .position(|r| r.x == r.y && r.y == r.z && r.k < 0)
+}
+
 // By how many minutes the times stand before zero, in all.
 pub fn depth(times: [i32; 3]) -> u64 {
     times.iter().fold(

@@ -8,15 +8,15 @@ ghost use Rattle.maxatom.specs.Book.{smallest};
 ghost use Rattle.maxatom.specs.Accepted.{InTime};
 ghost use Rattle.derivation.specs.Refusals.{latest_outside, latest_checks, verdict};
 ghost use Rattle.derivation.specs.Replies.{outcome_reply};
-ghost use Rattle.table.specs.Faults.{rule_fault, time_fault};
+ghost use Rattle.table.specs.Faults.{bounds_fault, rule_fault, time_fault};
 
 use derivation::{Fault, Refusal};
-use maxatom::Rule;
+use maxatom::{Class, Rule};
 
-// The checks of one rule of a table over `jobs` jobs: its job numbers, then its offset.
-#[tactic(auto, unfolding(crate::specs::Faults::rule_fault, derivation::specs::Refusals::job_outside, derivation::specs::Refusals::beyond), using(maxatom::proofs::Signed::told))]
-pub fn check_rule(jobs: usize, r: Rule) -> Result<(), Fault>
-    ensures { result ≡ rule_fault jobs r }
+// The checks of the numbers of one rule over `jobs` jobs: its job numbers, then its offset.
+#[tactic(auto, unfolding(crate::specs::Faults::bounds_then, derivation::specs::Refusals::job_outside, derivation::specs::Refusals::beyond), using(maxatom::proofs::Signed::told))]
+pub fn check_bounds(jobs: usize, r: Rule) -> Result<(), Fault>
+    ensures { result ≡ bounds_fault jobs r }
 {
     if jobs <= usize::from(r.x) || jobs <= usize::from(r.y) || jobs <= usize::from(r.z) {
         return Err(Fault::JobNumber);
@@ -25,6 +25,18 @@ pub fn check_rule(jobs: usize, r: Rule) -> Result<(), Fault>
         return Err(Fault::Offset);
     }
     Ok(())
+}
+
+// The checks of one rule of a table over `jobs` jobs: its numbers, then its class.
+#[tactic(auto, unfolding(crate::specs::Faults::bounds_then, maxatom::specs::Class::class_of, maxatom::specs::Class::contradiction, maxatom::specs::Class::tautology))]
+pub fn check_rule(jobs: usize, r: Rule) -> Result<(), Fault>
+    ensures { result ≡ rule_fault jobs r }
+{
+    check_bounds(jobs, r)?;
+    match r.class() {
+        Class::Contradiction => Err(Fault::ImpossibleRule),
+        _ => Ok(()),
+    }
 }
 
 // The check of one latest time.
