@@ -89,11 +89,11 @@ minutes_mark w e h = sent_mark w (rw h at e)
 -- a converted record has 12 bytes
 pub converted_size : (file : List ℕ) (at : ℕ) (r : Rule) → at + size_at file at ≤ length file → length (converted_record file (entry at r)) ≡ 12
 unfolding converted_record rule_record bytes_of
-converted_size file at r h = go (eqb (word file at) HR.mark) refl
+converted_size file at r h = go _ refl (eqb (word file at) HR.mark) refl
   where
-    go : (t : Bool) → eqb (word file at) HR.mark ≡ t → length (cond t (rule_record r) (bytes_at file at)) ≡ 12
-    go true e = refl
-    go false e = bytes_length file at h ∙ size_minutes file at (in_minutes file at e)
+    go : (bytes : List ℕ) → length bytes ≡ 12 → (t : Bool) → eqb (word file at) HR.mark ≡ t → length (cond t bytes (bytes_at file at)) ≡ 12
+    go bytes n true e = n
+    go bytes n false e = bytes_length file at h ∙ size_minutes file at (in_minutes file at e)
 
 -- a record that was read, converted
 module _ (jobs : ℕ) (file : List ℕ) (count at : ℕ) {r : Rule} (e : rule_reply Stored jobs file count at ≡ answer r) where
