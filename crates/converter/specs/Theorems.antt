@@ -10,7 +10,7 @@ use Rattle.bookfile.specs.Numbers.{word}
 use Rattle.bookfile.specs.Kinds.{HR}
 use Rattle.bookfile.specs.Reading.{Placed, entries, book_of_file}
 use Rattle.bookfile.specs.Replies.{file_reply}
-use Rattle.bookfile.specs.Theorems.{file_numbers, file_checks, file_hours}
+use Rattle.bookfile.specs.Theorems.{file_numbers, file_checks, file_hours, file_d}
 use Rattle.converter.specs.Converting.{converted, output_checks, convert_reply, convert_out}
 
 -- demand 1: the refusals of a stored file, then 21, each said when its condition is the first to hold; and a refusal changes nothing that
@@ -77,8 +77,27 @@ ConvertsFirst =
 abbrev pub ConvertedFits : Type 0
 ConvertedFits = (file : List ℕ) (counts : Counts) → file_reply Stored file ≡ answer counts → length (converted file) ≤ 16384
 
--- the converted file of `file_hours`: its one rule has an offset of −60 minutes
+-- two jobs, of which the second has a latest time, an hour before zero; and three rules, of which the first and the last are in hours
+abbrev pub file_mixed : List ℕ
+file_mixed =
+    66 ∷ 75 ∷ 2 ∷ 0
+    ∷ 67 ∷ 69 ∷ 1 ∷ 0 ∷ 196 ∷ 255 ∷ 255 ∷ 255
+    ∷ 72 ∷ 82 ∷ 0 ∷ 0 ∷ 0 ∷ 0 ∷ 1 ∷ 0 ∷ 255 ∷ 255
+    ∷ 82 ∷ 85 ∷ 0 ∷ 0 ∷ 1 ∷ 0 ∷ 0 ∷ 0 ∷ 255 ∷ 255 ∷ 255 ∷ 255
+    ∷ 72 ∷ 82 ∷ 1 ∷ 0 ∷ 1 ∷ 0 ∷ 0 ∷ 0 ∷ 2 ∷ 0
+    ∷ []
+
+-- The converted file of `file_hours`, whose one rule has an offset of −60 minutes; of `file_mixed`, whose other records are as they were; and
+-- of example D, which has no hours, and whose impossible rule the reader refuses.
 pub record ConvertExample : Type 0 where
   pub hours : converted file_hours ≡ 66 ∷ 75 ∷ 2 ∷ 0 ∷ 82 ∷ 85 ∷ 0 ∷ 0 ∷ 0 ∷ 0 ∷ 1 ∷ 0 ∷ 196 ∷ 255 ∷ 255 ∷ 255 ∷ []
   pub length : convert_reply file_hours 16 ≡ answer 16
   pub short : convert_reply file_hours 15 ≡ refused 21 0
+  pub mixed : converted file_mixed
+      ≡ 66 ∷ 75 ∷ 2 ∷ 0
+      ∷ 67 ∷ 69 ∷ 1 ∷ 0 ∷ 196 ∷ 255 ∷ 255 ∷ 255
+      ∷ 82 ∷ 85 ∷ 0 ∷ 0 ∷ 0 ∷ 0 ∷ 1 ∷ 0 ∷ 196 ∷ 255 ∷ 255 ∷ 255
+      ∷ 82 ∷ 85 ∷ 0 ∷ 0 ∷ 1 ∷ 0 ∷ 0 ∷ 0 ∷ 255 ∷ 255 ∷ 255 ∷ 255
+      ∷ 82 ∷ 85 ∷ 1 ∷ 0 ∷ 1 ∷ 0 ∷ 0 ∷ 0 ∷ 120 ∷ 0 ∷ 0 ∷ 0
+      ∷ []
+  pub impossible : (converted file_d ≡ file_d) × (file_reply Sent (converted file_d) ≡ refused 10 4)
