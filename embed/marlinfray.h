@@ -20,9 +20,9 @@
  *   Latest     Every call on a table, and the fresh board, reads the list of latest times: latest[j] is that of job j, a minute from
  *              -20,160 to 0, and 0 where the job has none of its own. A list that is not n long gets 21, its times unread.
  *   State      Nothing is allocated, there is no state between calls, and no file, clock or setting is looked at. Of the C library
- *              memcpy, memset and their like are asked for, and nothing else. Every function is reentrant: threads and signal handlers
+ *              memcpy and memset are asked for, and nothing else. Every function is reentrant: threads and signal handlers
  *              may call at once, while none writes what another call has been lent.
- *   Stack      marlinfray_solve takes 121,720 bytes of stack, every other call fewer than 512.
+ *   Stack      marlinfray_solve takes 121,608 bytes of stack, every other call fewer than 512.
  */
 #ifndef MARLINFRAY_H
 #define MARLINFRAY_H

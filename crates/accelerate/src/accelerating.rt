@@ -7,6 +7,7 @@ use crate::lockstep::lockstep_passes;
 use crate::plain::plain_passes;
 use crate::room::Room;
 use clauses::{AsClause, earlier, fall, is_earlier, product};
+use slices::copy;
 
 // Sets the near times to the times, and the far times t drops below them. Answers whether each far time is at or above the floor.
 fn spread(
@@ -21,7 +22,7 @@ fn spread(
     requires sizes { (length drops.now ≡ length times.now) × (length near.old ≡ length times.now) × (length far.old ≡ length times.now) }
     ensures { result ≡ true → Spread t drops.now times.now near.new far.new }
 {
-    near.copy_from_slice(times);
+    copy(times, near);
     for (i, drop) in drops.iter().enumerate() {
         let low = earlier(times[i], product(t, *drop));
         if low < i64::from(floor) {
@@ -80,7 +81,7 @@ pub fn accelerate<C: AsClause, const N: usize>(
     if !dropped(t, drops, times, near, far) {
         return None;
     }
-    times.copy_from_slice(far);
+    copy(far, times);
     Some((t + 1) * steps)
 }
 
@@ -116,7 +117,7 @@ fn guess_by_passes<C: AsClause, const N: usize>(
     let n = times.len();
     let near = &mut room.near[..];
     let near = &mut near[..n];
-    near.copy_from_slice(times);
+    copy(times, near);
     plain_passes(clauses, floor, passes as u64, near)?;
     Some(guess(floor, times, near, drops))
 }

@@ -195,26 +195,25 @@ module _ (file : List ℕ) (number : ℕ) where
   unfolding record_of stretch
   record_here b = sym (ap (stretch file) b.here)
 
-  pub place_none : length (entries Sent file) ≤ number → record { start = 0; end = 0 } ≡ place_of file number
+  pub place_none : length (entries Sent file) ≤ number → record { at = 0; size = 0 } ≡ place_of file number
   unfolding place_of place_at
   place_none h = sym (ap (place_at file) (drop_of_length-le (entries Sent file) {i = number} h))
 
-  pub place_refused : {n place : ℕ} → file_reply Sent file ≡ refused n place → record { start = 0; end = 0 } ≡ place_of file number
+  pub place_refused : {n place : ℕ} → file_reply Sent file ≡ refused n place → record { at = 0; size = 0 } ≡ place_of file number
   place_refused e = place_none (omega (arith, ap length (refused_none Sent file e)))
 
-  pub place_here : {at : ℕ} → Begins Sent file number at → record { start = at; end = at + size_at file at } ≡ place_of file number
+  pub place_here : {at : ℕ} → Begins Sent file number at → record { at = at; size = size_at file at } ≡ place_of file number
   unfolding place_of place_at
   place_here b = sym (ap (place_at file) b.here)
 
   -- the record is that stretch of the file
-  pub record_place : take ((place_of file number).end - (place_of file number).start) (drop (place_of file number).start file) ≡ record_of file number
+  pub record_place : take (place_of file number).size (drop (place_of file number).at file) ≡ record_of file number
   unfolding record_of stretch place_of place_at
   record_place = go (drop number (entries Sent file))
     where
-      go : (es : List Placed) →
-          take ((place_at file es).end - (place_at file es).start) (drop (place_at file es).start file) ≡ stretch file es
+      go : (es : List Placed) → take (place_at file es).size (drop (place_at file es).at file) ≡ stretch file es
       go [] = refl
-      go (e ∷ es) = ap (λ (n : ℕ). take n (drop e.at file)) (omega arith)
+      go (e ∷ es) = refl
 
 -- the reader, by what examining the file said
 module _ (file : List ℕ) (rules latest : ℕ) where

@@ -1,6 +1,5 @@
 -- The file of a book, read record by record: the first record, then latest times, then rules to the end of the file.
 use Rattle.std.specs.Prelude.{Bool, cond, not, ◌&&◌, List, [], ◌∷◌, ◌++◌, map, ℕ, zero, suc, ◌+◌, ◌*◌, eqb, leb, length, take, drop, ℤ, pos}
-use Rattle.std.specs.declared.ops.Range.{Range}
 use Rattle.maxatom.specs.Book.{most_jobs, most_rules, Book, book}
 use Rattle.maxatom.specs.declared.Rule.{Rule}
 use Rattle.derivation.specs.Refusals.{Reply, refused, answer, Check, check, reply, verdict}
@@ -9,6 +8,7 @@ use Rattle.bookfile.specs.Kinds.{kind_checks, class_checks, cut, BK, CE, rule_ma
 use Rattle.bookfile.specs.declared.mark.Form.{Form}
 use Rattle.bookfile.specs.declared.mark.Form.TheVariants.{Sent}
 use Rattle.bookfile.specs.declared.reading.LatestTime.{LatestTime}
+use Rattle.bookfile.specs.declared.reading.Stretch.{Stretch}
 
 -- the checks of the first record
 unfoldable pub head_checks : Form → List ℕ → List Check
@@ -133,12 +133,12 @@ latest_of_file file = minutes_from 0 (word file 2) (read (latest_records file))
 abbrev pub book_of_file : Form → List ℕ → Book
 book_of_file form file = book (word file 2) (latest_of_file file) (rules_of_file form file)
 
--- where the first entry's record stands in the file: from its first byte to the byte after its last; no bytes where there is none
-unfoldable pub place_at : List ℕ → List Placed → Range ℕ
-place_at file [] = record { start = 0; end = 0 }
-place_at file (e ∷ more) = record { start = e.at; end = e.at + size_at file e.at }
+-- where the first entry's record stands in the file: its first byte and its length; nowhere, and 0 bytes, where there is none
+unfoldable pub place_at : List ℕ → List Placed → Stretch
+place_at file [] = record { at = 0; size = 0 }
+place_at file (e ∷ more) = record { at = e.at; size = size_at file e.at }
 
-unfoldable pub place_of : List ℕ → ℕ → Range ℕ
+unfoldable pub place_of : List ℕ → ℕ → Stretch
 place_of file number = place_at file (drop number (entries Sent file))
 
 -- the bytes of the rule's record that begins at a byte

@@ -13,7 +13,6 @@ use crate::bytes::{signed32, word};
 use crate::mark::{Form, Mark};
 use derivation::{Counts, Fault, Refusal};
 use maxatom::Rule;
-use std::ops::Range;
 use table::{check_bounds, check_rule, check_time};
 
 // A job and its latest time.
@@ -238,29 +237,39 @@ fn begin(file: &[u8], first: usize, number: usize) -> usize
     at
 }
 
-// The bytes of a rule's record, by the rule's number: none if the reader refuses the file or it holds no such rule.
+// Where a rule's record stands in its file: its first byte, and its length in bytes.
+#[derive(Clone, Copy)]
+pub struct Stretch {
+    pub at: usize,
+    pub size: usize,
+}
+
+// The stretch of a rule's record, by the rule's number: of no bytes if the reader refuses the file or it holds no such rule.
 #[tactic(auto, using(crate::proofs::Walks::places, crate::proofs::Records::size_bounds))]
-pub fn stretch_of(file: &[u8], number: usize) -> Range<usize>
+pub fn stretch_of(file: &[u8], number: usize) -> Stretch
     ensures place { result ≡ place_of file.now number }
-    ensures inside { (result.start ≤ result.end) × (result.end ≤ length file.now) }
+    ensures inside { result.at + result.size ≤ length file.now }
 {
     match check_file(Form::Sent, file) {
         Ok(checked) if number < checked.counts.rules => {
             let at = begin(file, checked.begin, number);
-            at..at + size_at(file, at)
+            Stretch {
+                at,
+                size: size_at(file, at),
+            }
         }
-        _ => 0..0,
+        _ => Stretch { at: 0, size: 0 },
     }
 }
 
 // The record of a rule, handed back as that stretch of the lent file: its bytes, and where they are. An address is a block and a byte in it.
-#[tactic(auto, using(crate::proofs::Walks::record_place))]
 pub fn record(file: &[u8], number: usize) -> &[u8]
     ensures bytes { result.now ≡ record_of file.now number }
     ensures block { result.ref_ptr.0 ≡ file.entry.ref_ptr.0 }
-    ensures byte { result.ref_ptr.1 ≡ file.entry.ref_ptr.1 + (place_of file.now number).start }
+    ensures byte { result.ref_ptr.1 ≡ file.entry.ref_ptr.1 + (place_of file.now number).at }
 {
-    &file[stretch_of(file, number)]
+    let place = stretch_of(file, number);
+    &file[place.at..place.at + place.size]
 }
 
 // The latest time of each job, written into a list with a place for each.

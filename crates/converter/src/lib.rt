@@ -15,6 +15,7 @@ use bookfile::mark::Form;
 use bookfile::reading::{Checked, check_file, decoded_rule, is_in_hours, next_record};
 use bookfile::writing::rule_record;
 use derivation::{Fault, Refusal};
+use slices::copy;
 
 // The record of the rule that begins at a byte, converted.
 #[tactic(auto, using(crate::proofs::Writing::records))]
@@ -39,7 +40,7 @@ fn write_converted(file: &[u8], checked: Checked, out: &mut [u8])
     requires out_len_bound { length (converted file.now) ≤ length out.old }
     ensures { out.new ≡ over (converted file.now) out.old }
 {
-    out[..checked.begin].copy_from_slice(&file[..checked.begin]);
+    copy(&file[..checked.begin], &mut out[..checked.begin]);
     let mut at = checked.begin;
     for number in 0..checked.counts.rules {
         let to = checked.begin + number * 12;

@@ -1,5 +1,5 @@
 -- The replies as C sees them: three words and two times.
-use Rattle.std.specs.Prelude.{Bool, true, false, ℕ, ◌-◌, pos}
+use Rattle.std.specs.Prelude.{Bool, true, false, ℕ, pos}
 use Rattle.derivation.specs.Refusals.{Reply, refused, answer}
 use Rattle.maxatom.specs.Runs.{End, planned, fell, unfinished}
 use Rattle.maxatom.specs.declared.Slip.{Slip}
@@ -7,7 +7,7 @@ use Rattle.derivation.specs.Calls.{ModelCheck, satisfies, violates, Answer}
 use Rattle.derivation.specs.declared.Counts.{Counts}
 use Rattle.derivation.specs.declared.Refusal.{Refusal}
 use Rattle.derivation.specs.Faults.{number_of}
-use Rattle.std.specs.declared.ops.Range.{Range}
+use Rattle.bookfile.specs.declared.reading.Stretch.{Stretch}
 use Rattle.marlinfray.specs.declared.Words.{Words}
 
 -- with no slip, both times are 0
@@ -62,5 +62,5 @@ abbrev pub run_words : Answer → Words
 run_words a = end_words a.steps a.end
 
 -- a rule's record: its first byte in the file and its length
-abbrev pub place_words : Range ℕ → Words
-place_words place = words 0 place.start (place.end - place.start)
+abbrev pub place_words : Stretch → Words
+place_words s = words 0 s.at s.size

@@ -177,7 +177,7 @@ pub extern "C" fn marlinfray_record(file: &[u8], number: usize, reply: &mut Word
     ensures { reply.new ≡ place_words (place_of file.now number) }
 {
     let place = bookfile::reading::stretch_of(file, number);
-    *reply = Words::new(0, place.start as u64, place.len() as u64);
+    *reply = Words::new(0, place.at as u64, place.size as u64);
 }
 
 // The converter.

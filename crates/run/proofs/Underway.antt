@@ -1,7 +1,7 @@
 -- A run underway: from times that it came to it can go on, its steps are few, and how it ends. Assumes nothing.
 use Rattle.std.proofs.Common.{◌≡◌, refl, sym, ap, subst, ◌∙◌, ℕ, suc, ◌+◌, ◌*◌, ◌<◌, ◌≤◌, ◌^◌, List, [], ◌∷◌, ◌++◌, map, length, get_or, take, drop, ℤ, pos, nat_abs, ◌≤ℤ◌, Some, Ok, Err, SFits, w32, arith, take-append-drop}
 use lib.ListN.{length-map}
-use Rattle.std.proofs.lemmas.List.{drop_more, get_or-map}
+use Rattle.std.proofs.lemmas.List.{drop_more, get_or-map, length-take}
 use Rattle.maxatom.specs.Rule.{time_at}
 use Rattle.maxatom.specs.Book.{Each, minus}
 use Rattle.maxatom.specs.Clauses.{Clause, arms_of, arm_time, left_of, stepped}
@@ -13,7 +13,7 @@ use Rattle.maxatom.proofs.Integers.{le_read, le_make, up_zero, off_parts, minus_
 use Rattle.maxatom.proofs.Signed.{fits_make, fits_between}
 use Rattle.maxatom.proofs.Lists.{each_in}
 use Rattle.maxatom.proofs.Clauses.{Below, reaching, reached}
-use Rattle.maxatom.proofs.Walks.{High, Targets, walk_size, walk_high, walk_low, walk_fell}
+use Rattle.maxatom.proofs.Walks.{High, Targets, walk_size, walk_few, walk_high, walk_low, walk_fell}
 use Rattle.maxatom.proofs.Components.{passing_low}
 use Rattle.maxatom.proofs.Runs.{Ends, passing_size, passing_high, passing_room, ends_fell, ends_planned, ends_after}
 use Rattle.clauses.specs.Passes.{Walked, Falls}
@@ -67,6 +67,10 @@ module _ {floor : ℤ} {cs : List Clause} {b : List ℤ} (r : Runnable floor cs 
 
   pub walk_runnable : {ds : List Clause} {b' : List ℤ} {k : ℕ} → Walk floor ds b b' k → Runnable floor cs b'
   walk_runnable w = lowered (walk_size w) (walk_high w r.high) (walk_low w)
+
+  -- the steps of a pass up to a clause are few
+  pub steps_few : (at : ℕ) {before after : ℕ} {b' : List ℤ} → before ≤ 2 ^ 62 → Walked floor (take at cs) b b' before after → after < 2 ^ 63
+  steps_few at h w = omega (arith, h, w.counted, walk_few w.walk, length-take at cs, r.short)
 
   module _ {b' : List ℤ} {s s' : ℕ} (c : Came floor cs b b' s s') where
     pub came_room : room floor b' + s' ≤ room floor b + s

@@ -14,7 +14,7 @@ ghost use Rattle.maxatom.specs.Runs.{passes, room as room_of, run as run_of};
 ghost use Rattle.run.specs.Running.{Runnable, end_of};
 
 use crate::blocks::index;
-use crate::passing::one_pass;
+use crate::passing::{one_pass, plain_pass};
 use accelerate::{Room, Watch, few};
 use clauses::{AsClause, Pass};
 use components::{Waiting, advance_on};
@@ -114,7 +114,7 @@ pub fn run<C: AsClause>(clauses: &[C], floor: i32, times: &mut [i32]) -> Result<
 {
     let mut steps = 0;
     for i in 0..unwatched_passes(clauses.len()) {
-        let p = one_pass(clauses, floor, None, None, steps, times)?;
+        let p = plain_pass(clauses, floor, steps, times)?;
         if p.steps == steps {
             return Ok(p.steps);
         }

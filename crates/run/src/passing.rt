@@ -96,7 +96,26 @@ fn last_step<C: AsClause>(clauses: &[C], floor: i32, low: Stop, times: &mut [i32
     }
 }
 
+// One pass of a run over all clauses, with the last step where a job falls. Nothing is noted, and the loop over the clauses stands in the
+// run's own: the passes of a short run over few clauses would take as long to call as to make.
+pub fn plain_pass<C: AsClause>(
+    clauses: &[C],
+    floor: i32,
+    steps: u64,
+    times: &mut [i32],
+) -> Result<Pass, Fall>
+    requires runnable { Runnable floor (map C.clause clauses.now) times.old }
+    requires steps_bound { steps ≤ 2 ^ 62 }
+    ensures pass_made { PassMade floor (map C.clause clauses.now) times.old steps times.new result }
+{
+    match pass_over(clauses, floor, 0, None, new_pass(steps, 0), times) {
+        Ok(p) => Ok(p),
+        Err(low) => Err(last_step(clauses, floor, low, times)),
+    }
+}
+
 // One pass of a run, with the last step where a job falls: over the dirty blocks where these are handed over, else over all clauses.
+#[inline(never)]
 pub fn one_pass<C: AsClause>(
     clauses: &[C],
     floor: i32,

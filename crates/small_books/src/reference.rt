@@ -1,4 +1,6 @@
 // What the calls answer, worked out apart from the library. A job that the book has not stands at 0.
+ghost use Rattle.std.specs.Prelude.{◌*◌, ◌≤◌, ◌^◌};
+
 use planner::{Fault, Rule, Slip, Solved, Tally};
 
 pub fn time_of(times: [i32; 3], job: u16) -> i32 {
@@ -41,11 +43,13 @@ pub fn first_impossible(rules: &[Rule]) -> Option<usize> {
 }
 
 // By how many minutes the times stand before zero, in all.
-pub fn depth(times: [i32; 3]) -> u64 {
-    times.iter().fold(
-        0u64,
-        |sum, t| sum.saturating_add(u64::from(t.unsigned_abs())),
-    )
+pub fn depth(times: [i32; 3]) -> u64
+    ensures { result ≤ 3 * 2 ^ 31 }
+{
+    let [first, second, third] = times;
+    u64::from(first.unsigned_abs())
+        + u64::from(second.unsigned_abs())
+        + u64::from(third.unsigned_abs())
 }
 
 // The smallest latest time minus the offsets without sign.

@@ -7,6 +7,7 @@ ghost use Rattle.derivation.specs.Inner.{SolvedAs};
 
 use derivation::Solved;
 use maxatom::Rule;
+use slices::copy;
 use table::{floor, smallest};
 
 // The bench run of an accepted book, whose K is k. The lent times hold the assignment as it stood at the end.
@@ -16,7 +17,7 @@ pub fn solve(rules: &[Rule], latest: &[i32], k: u32, times: &mut [i32]) -> Solve
     requires k_value { k ≡ total rules.now }
     ensures { SolvedAs (solve (book (length latest.now) latest.now rules.now)) result times.new }
 {
-    times.copy_from_slice(latest);
+    copy(latest, times);
     match run::run(rules, floor(smallest(latest), k), times) {
         Ok(steps) => Solved::Plan(steps),
         Err(fall) => Solved::None(fall.steps, fall.slip),

@@ -5,6 +5,7 @@ ghost use Rattle.derivation.specs.Calls.{initial_reply, initial_times};
 ghost use Rattle.derivation.specs.Replies.{outcome_reply};
 
 use derivation::{Fault, Refusal, Tally};
+use slices::copy;
 use table::check_latest;
 
 // The initial assignment (fresh board): each job at its latest time.
@@ -20,7 +21,7 @@ pub fn initial(n: usize, latest: &[i32], times: &mut [i32]) -> Result<(), Refusa
     if times.len() != n {
         return Err(Fault::Length.into());
     }
-    times.copy_from_slice(latest);
+    copy(latest, times);
     Ok(())
 }
 

@@ -12,11 +12,11 @@ loop-i-init g c = came_none _ _ c.args.times.now 0
 before : (g : _) (c : At-loop-i g) → Came c.args.floor (map g.C.AsClause.clause c.args.clauses.now) c.args.times.now c.loop-i.times 0 c.loop-i.steps
 before g c = rw (to_z-of_z c.ranges.floor) at c.loop-i.invariant
 
-pub one_pass-requires-clause-runnable : goal.one_pass-requires-clause-runnable
-one_pass-requires-clause-runnable g c = rw (to_z-of_z c.ranges.floor) (came_runnable c.requires (before g (goal.at.one_pass-requires-clause-runnable g c).At-loop-i))
+pub plain_pass-requires-clause-runnable : goal.plain_pass-requires-clause-runnable
+plain_pass-requires-clause-runnable g c = rw (to_z-of_z c.ranges.floor) (came_runnable c.requires (before g (goal.at.plain_pass-requires-clause-runnable g c).At-loop-i))
 
-pub one_pass-requires-clause-steps_bound : goal.one_pass-requires-clause-steps_bound
-one_pass-requires-clause-steps_bound g c = omega (arith, came_few c.requires (before g (goal.at.one_pass-requires-clause-steps_bound g c).At-loop-i))
+pub plain_pass-requires-clause-steps_bound : goal.plain_pass-requires-clause-steps_bound
+plain_pass-requires-clause-steps_bound g c = omega (arith, came_few c.requires (before g (goal.at.plain_pass-requires-clause-steps_bound g c).At-loop-i))
 
 pub returns-in_err-p : goal.returns-in_err-p
 returns-in_err-p g c =

@@ -16,4 +16,4 @@ returns g c =
     (omega (arith, c.in_ok-steps.ensures.some))
     (search rules)
     (search rules)
-    c.copy_from_slice.ensures.after
+    c.copy.ensures

@@ -1,9 +1,7 @@
 use Rattle.std.proofs.Common.{arith, map}
 use mir.Facts.{to_z-of_z}
 use lib.ListN.{length-map}
-use Rattle.std.proofs.lemmas.List.{length-take}
-use Rattle.maxatom.proofs.Walks.{walk_few}
-use Rattle.run.proofs.Underway.{walk_runnable, fell_at}
+use Rattle.run.proofs.Underway.{walk_runnable, steps_few, fell_at}
 use Rattle.run.proofs.passing.one_pass.Goals as goal
 
 pub last_step-requires-clause-runnable : goal.last_step-requires-clause-runnable
@@ -12,9 +10,7 @@ last_step-requires-clause-runnable g c = rw (to_z-of_z c.ranges.floor) (walk_run
 pub last_step-requires-clause-low : goal.last_step-requires-clause-low
 last_step-requires-clause-low g c =
     let e = c.in-Err.ensures.ends in
-    let cs = map g.C.AsClause.clause c.args.clauses.now in
-    let size = length-map c.args.clauses.now g.C.AsClause.clause in
-    (omega (arith, e.0, size), omega (arith, e.1.counted, walk_few e.1.walk, length-take c.in-Err.low.at cs, c.requires.runnable.short, c.requires.steps_bound))
+    (omega (arith, e.0, length-map c.args.clauses.now g.C.AsClause.clause), steps_few c.requires.runnable c.in-Err.low.at c.requires.steps_bound (rw (to_z-of_z c.ranges.floor) at e.1))
 
 pub returns-in-Err-clause-pass_made : goal.returns-in-Err-clause-pass_made
 returns-in-Err-clause-pass_made g c =

@@ -16,15 +16,15 @@ floor-requires c =
 
 pub run-requires : goal.run-requires
 run-requires c =
-    rw c.copy_from_slice.ensures.after
+    rw c.copy.ensures
     (runnable c.requires.accepted c.requires.k_value (search rules) c.smallest.ensures (search rules) c.floor.ensures)
 
 pub returns-in-Ok : goal.returns-in-Ok
 returns-in-Ok c =
     solved c.requires.accepted c.requires.k_value (search rules) c.smallest.ensures (search rules) c.floor.ensures _ refl refl
-    (rw c.copy_from_slice.ensures.after at c.in-Ok.ensures)
+    (rw c.copy.ensures at c.in-Ok.ensures)
 
 pub returns-in-Err : goal.returns-in-Err
 returns-in-Err c =
     solved c.requires.accepted c.requires.k_value (search rules) c.smallest.ensures (search rules) c.floor.ensures _ refl refl
-    (rw c.copy_from_slice.ensures.after at c.in-Err.ensures)
+    (rw c.copy.ensures at c.in-Err.ensures)

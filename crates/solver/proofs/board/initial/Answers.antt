@@ -18,11 +18,11 @@ returns-then-times-n c =
     let e = initial_size _ _ _ c.if-n-lt1.false c.if-n-gt256.false c.in_ok-check_latest.ensures c.if-times-n.true in
     rw c.into-then-times-n.ensures (record { result_value = e.0; times_after = e.1 })
 
-pub copy_from_slice-requires : goal.copy_from_slice-requires
-copy_from_slice-requires c =
+pub copy-requires : goal.copy-requires
+copy-requires c =
     c.if-times-n.false ∙ sym (latest_size c.args.n c.args.latest.now c.args.times.now c.if-n-lt1.false c.if-n-gt256.false c.in_ok-check_latest.ensures)
 
 pub returns : goal.returns
 returns c =
     let e = initial_done c.args.n c.args.latest.now c.args.times.now c.if-n-lt1.false c.if-n-gt256.false c.in_ok-check_latest.ensures c.if-times-n.false in
-    rw c.copy_from_slice.ensures.after (record { result_value = e.0; times_after = e.1 })
+    rw c.copy.ensures (record { result_value = e.0; times_after = e.1 })
